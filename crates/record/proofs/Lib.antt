@@ -1,0 +1,5 @@
+pub mod Flags
+pub mod Lists
+pub mod Queues
+pub mod Same
+pub mod Views
