@@ -11,7 +11,7 @@ use Rattle.std.specs.declared.result.Result.the-variants.{Ok, Err}
 use Rattle.record.specs.Queue.{items, push-answer, after-push}
 use Rattle.record.specs.declared.queue.Queue.{Queue}
 
-zeros-less : (n i : ℕ) → drop 1 (replicate (n - i) 0) ≡ replicate (n - (i + 1)) 0
+zeros-less : (n i : ℕ) → drop {A = ℕ} 1 (replicate (n - i) 0) ≡ replicate (n - (i + 1)) 0
 zeros-less n i = drop-replicate 1 (n - i) 0 ∙ ap (λ j. replicate j 0) (omega arith)
 
 -- one byte more at the place behind the others: what is behind that is still zero
