@@ -64,7 +64,7 @@ pack-run pre (y ∷ rest) (a ∷ b ∷ c ∷ d ∷ e ∷ f ∷ g ∷ h ∷ bs) p
     let same : made ≡ byte = omega arith in
     let R : List ℕ → ℕ → List ℕ = λ o q. run (record { out = o; full = q; pending = 0; count = 0 }) bs .out in
     let wrote : set (pre ++ y ∷ rest) (length pre) made ≡ (pre ++ byte ∷ []) ++ rest =
-        ap (set (pre ++ y ∷ rest) (length pre)) same ∙ (set-at pre y rest byte (length pre) refl ∙ sym (append-assoc pre (byte ∷ []) rest)) in
+    ap (set (pre ++ y ∷ rest) (length pre)) same ∙ (set-at pre y rest byte (length pre) refl ∙ sym (append-assoc pre (byte ∷ []) rest)) in
     let fit : length (pack bs) ≤ length rest = omega arith in
     ap₂ R wrote (sym (length-push pre byte))
     ∙ (pack-run (pre ++ byte ∷ []) rest bs (p .1 .1 .1 .1 .1 .1 .1 .1) fit

@@ -67,5 +67,5 @@ pub fields-step : (s t z : State) (w : ℕ) (vs : List ℕ) (i x : ℕ) → i < 
 unfolding fields
 fields-step s t z w vs i x h e f g =
     let m : run s (fields w (drop i vs)) ≡ run (run s (bits w (getD vs i 0))) (fields w (drop (i + 1) vs)) =
-        rw (drop-more vs i 0 h) (run-append s (bits w (getD vs i 0)) (fields w (drop (i + 1) vs))) in
+    rw (drop-more vs i 0 h) (run-append s (bits w (getD vs i 0)) (fields w (drop (i + 1) vs))) in
     cc

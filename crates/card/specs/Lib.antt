@@ -1,3 +1,5 @@
-pub mod Refusal
 pub mod Bits
+pub mod Card
+pub mod Laws
+pub mod Refusal
 pub mod Writer

@@ -16,10 +16,18 @@ fn push(out: &mut [u8], at: Place, bit: u8) -> Place
 {
     let value = at.pending * 2 + bit;
     if at.count < 7 {
-        return Place { full: at.full, pending: value, count: at.count + 1 };
+        return Place {
+            full: at.full,
+            pending: value,
+            count: at.count + 1,
+        };
     }
     out[at.full] = value;
-    Place { full: at.full + 1, pending: 0, count: 0 }
+    Place {
+        full: at.full + 1,
+        pending: 0,
+        count: 0,
+    }
 }
 
 // Whether there is a place for each byte that so many more bits fill.
@@ -65,7 +73,14 @@ impl<'a> BitWriter<'a> {
         ensures same { λ r. ⌜ lent r ≡ name (out .entry) ⌝ }
         ensures after { λ r. ⌜ state r ≡ start (now (out .entry)) ⌝ }
     {
-        BitWriter { out, place: Place { full: 0, pending: 0, count: 0 } }
+        BitWriter {
+            out,
+            place: Place {
+                full: 0,
+                pending: 0,
+                count: 0,
+            },
+        }
     }
 
     // Puts a value of so many bits. It refuses a width that is not 1 to 32 or a value that does

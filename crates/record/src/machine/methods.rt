@@ -3,6 +3,7 @@ ghost use Rattle.record.specs.Contents.{contents, fresh-contents, switched, sy
 ghost use Rattle.record.specs.Queue.{items};
 ghost use Rattle.record.specs.View.{View, Views-tell, contents-of, control-of, flags-word, fresh-view, pair-of, registers-of, view, view-with-flags, words as the-words};
 ghost use Rattle.std.specs.Orderings.{Decides};
+ghost use lib.ListN.{length};
 ghost use mathlib.Core.Path.{_≡_};
 use super::Record;
 use super::WORDS;
@@ -158,7 +159,8 @@ impl Record {
 
     // The twenty-four words in their published order.
     pub fn words(&self) -> [u32; WORDS]
-        ensures { λ r. ⌜ r ≡ the-words (contents (now (self .entry))) ⌝ }
+        ensures value { λ r. ⌜ r ≡ the-words (contents (now (self .entry))) ⌝ }
+        ensures len { λ r. ⌜ length r ≡ 24 ⌝ }
     {
         let r = self.core.regs;
         let system = self.system_pair();

@@ -1,0 +1,114 @@
+ghost use Prim.Native.Nat.{_*_, _^_, _<_, ℕ};
+ghost use Rattle.card.specs.Bits.{AllBytes, fields};
+ghost use Rattle.card.specs.Card.{after-write, card-bits, mapped, read as the-card, size, write-answer};
+ghost use Rattle.card.specs.Laws.{Proper, Reads-back, Writes-back, after-copy, copy-answer, kept};
+ghost use Rattle.card.specs.Writer.{Moved, Ready, lent, run, state};
+ghost use Rattle.record.specs.Contents.{contents};
+ghost use Rattle.record.specs.View.{view};
+ghost use Rattle.std.specs.Vec.{made};
+ghost use lib.ListN.{getD, length};
+ghost use mathlib.Core.Path.{_≡_};
+use crate::reader::read_count;
+use crate::reader::read_edition;
+use crate::reader::read_end;
+use crate::reader::read_field;
+use crate::reader::read_queue;
+use crate::reader::read_words;
+use crate::refusal::CardRefusal;
+use crate::refusal::CopyRefusal;
+use crate::refusal::WriterRefusal;
+use crate::writer::BitWriter;
+use record::machine::Record;
+
+// The most bytes that a card has: 100, 64 keys and 64 tray characters.
+pub const LONGEST: usize = 228;
+
+fn put_words(w: &mut BitWriter, words: &[u32])
+    requires { ⌜ Ready (state (now w)) (32 * length (now words)) ⌝ }
+    ensures same { λ _. ⌜ lent (now (w .exit)) ≡ lent (now (w .entry)) ⌝ }
+    ensures after { λ _. ⌜ state (now (w .exit)) ≡ run (state (now (w .entry))) (fields 32 (now (words .entry))) ⌝ }
+    ensures moved { λ _. ⌜ Moved (state (now (w .entry))) (state (now (w .exit))) (32 * length (now (words .entry))) ⌝ }
+    ensures fit { λ _. ⌜ ((i : ℕ) → getD (now (words .entry)) i 0 < 2 ^ 32) ⌝ }
+{
+    for i in 0..words.len() {
+        w.put_known(words[i], 32);
+    }
+}
+
+fn put_bytes(w: &mut BitWriter, bytes: &[u8])
+    requires { ⌜ Ready (state (now w)) (8 * length (now bytes)) ⌝ }
+    ensures same { λ _. ⌜ lent (now (w .exit)) ≡ lent (now (w .entry)) ⌝ }
+    ensures after { λ _. ⌜ state (now (w .exit)) ≡ run (state (now (w .entry))) (fields 8 (now (bytes .entry))) ⌝ }
+    ensures moved { λ _. ⌜ Moved (state (now (w .entry))) (state (now (w .exit))) (8 * length (now (bytes .entry))) ⌝ }
+    ensures fit { λ _. ⌜ ((i : ℕ) → getD (now (bytes .entry)) i 0 < 2 ^ 8) ⌝ }
+{
+    for i in 0..bytes.len() {
+        w.put_known(u32::from(bytes[i]), 8);
+    }
+}
+
+fn put_card(w: &mut BitWriter, machine: &Record)
+    requires { ⌜ Ready (state (now w)) (8 * size (view (contents (now machine)))) ⌝ }
+    ensures same { λ _. ⌜ lent (now (w .exit)) ≡ lent (now (w .entry)) ⌝ }
+    ensures after { λ _. ⌜ state (now (w .exit)) ≡ run (state (now (w .entry))) (card-bits (view (contents (now (machine .entry))))) ⌝ }
+    ensures moved { λ _. ⌜ Moved (state (now (w .entry))) (state (now (w .exit))) (8 * size (view (contents (now (machine .entry))))) ⌝ }
+    ensures proper { λ _. ⌜ Proper (view (contents (now (machine .entry)))) ⌝ }
+{
+    let words = machine.words();
+    let keys = machine.keys.as_slice();
+    let tray = machine.tray.as_slice();
+    w.put_known(1, 4);
+    w.put_known(machine.flags(), 7);
+    w.put_known(keys.len() as u32, 7);
+    w.put_known(tray.len() as u32, 7);
+    put_words(w, &words);
+    put_bytes(w, keys);
+    put_bytes(w, tray);
+    w.put_known(0, 7);
+}
+
+// Writes a machine record's card to the front of a buffer and answers how many bytes it has. A
+// buffer that is too short is refused and stays as it is.
+pub fn write_card(machine: &Record, out: &mut [u8]) -> Result<usize, WriterRefusal>
+    ensures answer { λ r. ⌜ r ≡ write-answer (view (contents (now (machine .entry)))) (now (out .entry)) ⌝ }
+    ensures after { λ _. ⌜ now (out .exit) ≡ after-write (view (contents (now (machine .entry)))) (now (out .entry)) ⌝ }
+    ensures proper { λ r. ⌜ made r (λ _. Proper (view (contents (now (machine .entry))))) ⌝ }
+{
+    if out.len() < 100 + machine.keys.len() + machine.tray.len() {
+        return Err(WriterRefusal::NoPlace);
+    }
+    let mut w = BitWriter::new(out);
+    put_card(&mut w, machine);
+    w.finish()
+}
+
+// Reads the machine record that bytes are the card of, or refuses with the first bit of the field
+// at which they are none.
+pub fn read_card(bytes: &[u8]) -> Result<Record, CardRefusal>
+    ensures { λ r. ⌜ mapped (λ m. view (contents m)) r ≡ the-card (now (bytes .entry)) ⌝ }
+{
+    read_edition(bytes)?;
+    let flags = read_field(bytes, 4, 7)?;
+    let keyed = read_count(bytes, 11)?;
+    let trayed = read_count(bytes, 18)?;
+    let words = read_words(bytes, 25)?;
+    let keys = read_queue(bytes, 793, keyed)?;
+    let tray = read_queue(bytes, 793 + 8 * keyed, trayed)?;
+    read_end(bytes, 793 + 8 * keyed + 8 * trayed)?;
+    Ok(Record::new(&words, flags, keys, tray))
+}
+
+// The law that a card that is written reads back as what was written: see `Reads-back`.
+pub fn reads_back() -> u8
+    ensures { λ _. ⌜ Reads-back ⌝ }
+{
+    0
+}
+
+// The law that bytes that read as a card are that card, so that no two cards mean one record: see
+// `Writes-back`.
+pub fn writes_back() -> u8
+    ensures { λ _. ⌜ Writes-back ⌝ }
+{
+    0
+}
