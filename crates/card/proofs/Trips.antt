@@ -1,21 +1,28 @@
 -- A card that is written reads back, and bytes that read as a card are that card.
-use Prim.Native.Nat.{ℕ, _+_, _*_, _<_, _≤_}
-use mathlib.Core.Path.{_≡_, refl, sym, _∙_, ap, subst}
+use Prim.Native.Nat.{ℕ, _+_, _*_, _-_, _<_, _≤_}
+use mathlib.Core.Path.{_≡_, refl, sym, _∙_, ap, ap₂, subst}
 use mathlib.Core.Bool.{Bool, true, false, cond}
 use mathlib.Core.List.{List, [], _∷_, _++_}
 use native.Mathlib.Omega.{arith}
-use lib.Dec.{eqb, ltb}
-use lib.ListN.{length, drop}
-use Rattle.std.proofs.shelf.Lists.{append-nil, drop-all}
+use lib.Dec.{eqb, leb, ltb}
+use lib.ListN.{length, take, drop}
+use Rattle.std.proofs.shelf.Lists.{append-nil, drop-all, take-at}
 use Rattle.std.proofs.shelf.Tests.{cond-true, cond-false, eqb-true, le-ltb, ltb-false}
 use Rattle.std.specs.declared.result.Result.{Result}
 use Rattle.std.specs.declared.result.Result.the-variants.{Ok, Err}
-use Rattle.record.specs.View.{View}
+use Rattle.record.proofs.Same.{views-tell}
+use Rattle.record.specs.Contents.{contents}
+use Rattle.record.specs.View.{View, view}
+use Rattle.record.specs.declared.machine.Record.{Record}
 use Rattle.card.specs.Bits.{bits, fields, pack, stream, AllBits, AllBytes}
-use Rattle.card.specs.Card.{accepted, card, card-bits, count, edition, ending, field, gather, read, read-bits, refused, size, then}
-use Rattle.card.specs.Laws.{Proper, Reads-back, Writes-back}
+use Rattle.card.specs.Card.{accepted, card, card-bits, count, edition, ending, field, gather, read, read-bits, refused, size, then, write-answer, after-write}
+use Rattle.card.specs.Laws.{Proper, Reads-back, Writes-back, after-copy, copy-answer}
 use Rattle.card.specs.declared.refusal.CardFault.the-variants.{WrongEdition, CountOver, BadPadding, LeftOver}
 use Rattle.card.specs.declared.refusal.CardRefusal.{CardRefusal}
+use Rattle.card.specs.declared.refusal.CopyRefusal.{CopyRefusal}
+use Rattle.card.specs.declared.refusal.CopyRefusal.the-variants.{Unwritten}
+use Rattle.card.specs.declared.refusal.WriterRefusal.{WriterRefusal}
+use Rattle.card.specs.declared.refusal.WriterRefusal.the-variants.{NoPlace}
 use Rattle.card.proofs.Cards.{all-card, card-long, card-size}
 use Rattle.card.proofs.Fields.{field-back, field-here, gather-all, gather-here, past, then-back, then-elim}
 use Rattle.card.proofs.Packs.{all-fields, fields-long, pack-stream, stream-pack}
@@ -173,3 +180,41 @@ writes-back bytes v fit e = ap pack (writes-bits (stream bytes) v (all-fields 8 
 pub read-size : (bytes : List ℕ) (v : View) → AllBytes bytes → read bytes ≡ Ok v → size v ≡ length bytes
 read-size bytes v fit e =
     sym (card-size v (writes-bits (stream bytes) v (all-fields 8 bytes) e .1)) ∙ ap length (writes-back bytes v fit e)
+
+-- a buffer's front, after a card was written there, reads as what was written
+pub front-reads : (v : View) (out after : List ℕ) (n : ℕ) → Proper v → Ok n ≡ write-answer v out → after ≡ after-write v out
+    → (read (take (n - 0) after) ≡ Ok v) × (leb (size v) (length out) ≡ true)
+front-reads v out after n p a e = go (leb (size v) (length out)) refl
+  where
+    go : (t : Bool) → leb (size v) (length out) ≡ t → (read (take (n - 0) after) ≡ Ok v) × (leb (size v) (length out) ≡ true)
+    go true h =
+        let en : Ok n ≡ Ok (size v) = a ∙ cond-true _ _ _ h in
+        let n0 : n - 0 ≡ size v = (let m : n ≡ size v = cc in omega arith) in
+        let ea : after ≡ card v ++ drop (size v) out = e ∙ cond-true _ _ _ h in
+        let cut : take (n - 0) after ≡ card v = ap₂ take n0 ea ∙ take-at (card v) (drop (size v) out) (size v) (card-size v (p .all)) in
+        (ap read cut ∙ reads-back v p, h)
+    go false h =
+        let bad : Ok n ≡ Err NoPlace = a ∙ cond-false _ _ _ h in
+        let z : _≡_ {A = ℕ} 0 1 = cc in absurd (omega arith)
+
+-- what reads as a record's published form is that record
+pub same-record : (r b : Record) (v : Result View CardRefusal) → Ok (view (contents b)) ≡ v → v ≡ Ok (view (contents r)) → b ≡ r
+same-record r b v e f = let same : view (contents b) ≡ view (contents r) = cc in views-tell b r same
+
+-- a copy's answer and what it leaves, by those of the write
+abbrev pub turned : Result ℕ WriterRefusal → Result ℕ CopyRefusal
+turned (Ok n) = Ok n
+turned (Err w) = Err (Unwritten w)
+
+turned-cond : (b : Bool) (n : ℕ) → turned (cond b (Ok n) (Err NoPlace)) ≡ cond b (Ok n) (Err (Unwritten NoPlace))
+turned-cond true n = refl
+turned-cond false n = refl
+
+pub copied : (bytes out : List ℕ) (v : View) → AllBytes bytes → Ok v ≡ read bytes
+    → (turned (write-answer v out) ≡ copy-answer (read bytes) bytes out) × (after-write v out ≡ after-copy (read bytes) bytes out)
+copied bytes out v fit e =
+    let n : size v ≡ length bytes = read-size bytes v fit (sym e) in
+    let b : card v ≡ bytes = writes-back bytes v fit (sym e) in
+    (ap (λ k. turned (cond (leb k (length out)) (Ok k) (Err NoPlace))) n
+        ∙ (turned-cond (leb (length bytes) (length out)) (length bytes) ∙ ap (λ r. copy-answer r bytes out) e),
+     ap₂ (λ k l. cond (leb k (length out)) (l ++ drop k out) out) n b ∙ ap (λ r. after-copy r bytes out) e)

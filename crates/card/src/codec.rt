@@ -16,6 +16,8 @@ use crate::reader::read_queue;
 use crate::reader::read_words;
 use crate::refusal::CardRefusal;
 use crate::refusal::CopyRefusal;
+use crate::refusal::FromCard;
+use crate::refusal::FromWriter;
 use crate::refusal::WriterRefusal;
 use crate::writer::BitWriter;
 use record::machine::Record;
@@ -96,6 +98,29 @@ pub fn read_card(bytes: &[u8]) -> Result<Record, CardRefusal>
     let tray = read_queue(bytes, 793 + 8 * keyed, trayed)?;
     read_end(bytes, 793 + 8 * keyed + 8 * trayed)?;
     Ok(Record::new(&words, flags, keys, tray))
+}
+
+// Writes a machine record's card and reads it back: it is the same record, unless the buffer is
+// too short for the card.
+pub fn round_trip(machine: &Record, out: &mut [u8]) -> Result<Record, WriterRefusal>
+    ensures value { λ r. ⌜ r ≡ kept (now (machine .entry)) (now (out .entry)) ⌝ }
+    ensures after { λ _. ⌜ now (out .exit) ≡ after-write (view (contents (now (machine .entry)))) (now (out .entry)) ⌝ }
+{
+    let n = write_card(machine, out)?;
+    match read_card(&out[0..n]) {
+        Ok(back) => Ok(back),
+        Err(_) => unreachable(),
+    }
+}
+
+// Reads a card and writes it again: the same bytes, unless they are no card or the buffer is too
+// short. Then the buffer stays as it is.
+pub fn copy_card(bytes: &[u8], out: &mut [u8]) -> Result<usize, CopyRefusal>
+    ensures answer { λ r. ⌜ r ≡ copy-answer (the-card (now (bytes .entry))) (now (bytes .entry)) (now (out .entry)) ⌝ }
+    ensures after { λ _. ⌜ now (out .exit) ≡ after-copy (the-card (now (bytes .entry))) (now (bytes .entry)) (now (out .entry)) ⌝ }
+{
+    let machine = read_card(bytes)?;
+    Ok(write_card(&machine, out)?)
 }
 
 // The law that a card that is written reads back as what was written: see `Reads-back`.

@@ -1,4 +1,5 @@
 ghost use Rattle.card.specs.Refusal.{card-number, writer-number};
+ghost use Rattle.card.specs.declared.refusal.CopyRefusal.the-variants.{Unread, Unwritten};
 ghost use mathlib.Core.Path.{_≡_};
 
 // Why a bit writer refuses.
@@ -55,5 +56,21 @@ impl CardFault {
         ensures { λ r. ⌜ r ≡ card-number self ⌝ }
     {
         self as u8
+    }
+}
+
+pub impl From<CardRefusal> for CopyRefusal as FromCard {
+    ghost converts = { λ x y. y ≡ Unread x };
+
+    fn from(refusal: CardRefusal) -> CopyRefusal {
+        CopyRefusal::Unread(refusal)
+    }
+}
+
+pub impl From<WriterRefusal> for CopyRefusal as FromWriter {
+    ghost converts = { λ x y. y ≡ Unwritten x };
+
+    fn from(refusal: WriterRefusal) -> CopyRefusal {
+        CopyRefusal::Unwritten(refusal)
     }
 }
