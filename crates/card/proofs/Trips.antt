@@ -183,16 +183,17 @@ read-size bytes v fit e =
 
 -- a buffer's front, after a card was written there, reads as what was written
 pub front-reads : (v : View) (out after : List ℕ) (n : ℕ) → Proper v → Ok n ≡ write-answer v out → after ≡ after-write v out
-    → (read (take (n - 0) after) ≡ Ok v) × (leb (size v) (length out) ≡ true)
+    → (read (take (n - 0) after) ≡ Ok v) × (n ≡ size v) × (leb (size v) (length out) ≡ true)
 front-reads v out after n p a e = go (leb (size v) (length out)) refl
   where
-    go : (t : Bool) → leb (size v) (length out) ≡ t → (read (take (n - 0) after) ≡ Ok v) × (leb (size v) (length out) ≡ true)
+    go : (t : Bool) → leb (size v) (length out) ≡ t → (read (take (n - 0) after) ≡ Ok v) × (n ≡ size v) × (leb (size v) (length out) ≡ true)
     go true h =
         let en : Ok n ≡ Ok (size v) = a ∙ cond-true _ _ _ h in
-        let n0 : n - 0 ≡ size v = (let m : n ≡ size v = cc in omega arith) in
+        let m : n ≡ size v = cc in
+        let n0 : n - 0 ≡ size v = omega arith in
         let ea : after ≡ card v ++ drop (size v) out = e ∙ cond-true _ _ _ h in
         let cut : take (n - 0) after ≡ card v = ap₂ take n0 ea ∙ take-at (card v) (drop (size v) out) (size v) (card-size v (p .all)) in
-        (ap read cut ∙ reads-back v p, h)
+        (ap read cut ∙ reads-back v p, m, h)
     go false h =
         let bad : Ok n ≡ Err NoPlace = a ∙ cond-false _ _ _ h in
         let z : _≡_ {A = ℕ} 0 1 = cc in absurd (omega arith)

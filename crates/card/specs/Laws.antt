@@ -36,9 +36,9 @@ Reads-back = (v : View) → Proper v → read (card v) ≡ Ok v
 abbrev pub Writes-back : Type 0
 Writes-back = (bytes : List ℕ) (v : View) → AllBytes bytes → read bytes ≡ Ok v → card v ≡ bytes
 
--- the same record, where its card has a place
-abbrev pub kept : Record → List ℕ → Result Record WriterRefusal
-kept r out = cond (leb (size (view (contents r))) (length out)) (Ok r) (Err NoPlace)
+-- the card's length and the same record, where the card has a place
+abbrev pub checked-answer : Record → List ℕ → Result (ℕ × Record) WriterRefusal
+checked-answer r out = cond (leb (size (view (contents r))) (length out)) (Ok (size (view (contents r)), r)) (Err NoPlace)
 
 -- copying answers the length of the bytes, if they read as a card and have a place
 abbrev pub copy-answer : Result View CardRefusal → List ℕ → List ℕ → Result ℕ CopyRefusal

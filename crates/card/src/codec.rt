@@ -1,7 +1,7 @@
 ghost use Prim.Native.Nat.{_*_, _^_, _<_, ℕ};
 ghost use Rattle.card.specs.Bits.{AllBytes, fields};
 ghost use Rattle.card.specs.Card.{after-write, card-bits, mapped, read as the-card, size, write-answer};
-ghost use Rattle.card.specs.Laws.{Proper, Reads-back, Writes-back, after-copy, copy-answer, kept};
+ghost use Rattle.card.specs.Laws.{Proper, Reads-back, Writes-back, after-copy, checked-answer, copy-answer};
 ghost use Rattle.card.specs.Writer.{Moved, Ready, lent, run, state};
 ghost use Rattle.record.specs.Contents.{contents};
 ghost use Rattle.record.specs.View.{view};
@@ -100,15 +100,15 @@ pub fn read_card(bytes: &[u8]) -> Result<Record, CardRefusal>
     Ok(Record::new(&words, flags, keys, tray))
 }
 
-// Writes a machine record's card and reads it back: it is the same record, unless the buffer is
-// too short for the card.
-pub fn round_trip(machine: &Record, out: &mut [u8]) -> Result<Record, WriterRefusal>
-    ensures value { λ r. ⌜ r ≡ kept (now (machine .entry)) (now (out .entry)) ⌝ }
+// Writes a machine record's card and reads it back. It answers how many bytes the card has, and
+// the record that was read, which is the same; or it refuses a buffer that is too short.
+pub fn write_checked(machine: &Record, out: &mut [u8]) -> Result<(usize, Record), WriterRefusal>
+    ensures answer { λ r. ⌜ r ≡ checked-answer (now (machine .entry)) (now (out .entry)) ⌝ }
     ensures after { λ _. ⌜ now (out .exit) ≡ after-write (view (contents (now (machine .entry)))) (now (out .entry)) ⌝ }
 {
     let n = write_card(machine, out)?;
     match read_card(&out[0..n]) {
-        Ok(back) => Ok(back),
+        Ok(back) => Ok((n, back)),
         Err(_) => unreachable(),
     }
 }
