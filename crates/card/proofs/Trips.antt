@@ -215,7 +215,8 @@ pub copied : (bytes out : List ℕ) (v : View) → AllBytes bytes → Ok v ≡ r
     → (turned (write-answer v out) ≡ copy-answer (read bytes) bytes out) × (after-write v out ≡ after-copy (read bytes) bytes out)
 copied bytes out v fit e =
     let n : size v ≡ length bytes = read-size bytes v fit (sym e) in
-    let b : card v ≡ bytes = writes-back bytes v fit (sym e) in
-    (ap (λ k. turned (cond (leb k (length out)) (Ok k) (Err NoPlace))) n
-        ∙ (turned-cond (leb (length bytes) (length out)) (length bytes) ∙ ap (λ r. copy-answer r bytes out) e),
-     ap₂ (λ k l. cond (leb k (length out)) (l ++ drop k out) out) n b ∙ ap (λ r. after-copy r bytes out) e)
+    let b : card v ≡ bytes = writes-back bytes v fit (sym e) in (
+      ap (λ k. turned (cond (leb k (length out)) (Ok k) (Err NoPlace))) n
+          ∙ (turned-cond (leb (length bytes) (length out)) (length bytes) ∙ ap (λ r. copy-answer r bytes out) e),
+      ap₂ (λ k l. cond (leb k (length out)) (l ++ drop k out) out) n b ∙ ap (λ r. after-copy r bytes out) e,
+    )

@@ -137,3 +137,48 @@ pub fn writes_back() -> u8
 {
     0
 }
+
+#[cfg(test)]
+mod tests {
+    use super::*;
+    use crate::refusal::CardFaultDebug;
+    use crate::refusal::CardRefusalDebug;
+    use crate::refusal::WriterRefusalDebug;
+    use std::test::*;
+
+    // What reading refuses, as its number and bit.
+    fn refusal(bytes: &[u8]) -> (u8, usize) {
+        match read_card(bytes) {
+            Ok(_) => (0, 0),
+            Err(refusal) => (refusal.fault.number(), refusal.bit),
+        }
+    }
+
+    #[test]
+    fn fresh_card() -> Result<(), Fail> {
+        let mut out = [255; LONGEST];
+        let n = write_card(&Record::fresh(), &mut out)?;
+        check(n == 100)?;
+        check(out[0] == 0x16 && out[1] == 0x20 && out[2] == 0)?;
+        check_eq(out[100], 255)
+    }
+
+    #[test]
+    fn refused_cards() -> Result<(), Fail> {
+        let mut card = [0; 101];
+        check_eq(refusal(&card[0..0]), (14, 0))?;
+        check_eq(refusal(&card), (15, 0))?;
+        card[0] = 0x16;
+        card[1] = 0x30;
+        card[2] = 0x40;
+        check_eq(refusal(&card), (16, 11))?;
+        card[1] = 0x20;
+        card[2] = 0;
+        check_eq(refusal(&card[0..50]), (14, 377))?;
+        check_eq(refusal(&card), (18, 800))?;
+        card[99] = 1;
+        check_eq(refusal(&card), (17, 793))?;
+        card[99] = 0x80;
+        check_eq(refusal(&card[0..100]), (0, 0))
+    }
+}

@@ -3,7 +3,7 @@ ghost use Rattle.card.specs.declared.refusal.CopyRefusal.the-variants.{Unread,
 ghost use mathlib.Core.Path.{_≡_};
 
 // Why a bit writer refuses.
-#[derive(Clone, Copy)]
+#[derive(Clone, Copy, Debug)]
 pub enum WriterRefusal {
     // there is no place for a full byte
     NoPlace = 12,
@@ -12,7 +12,7 @@ pub enum WriterRefusal {
 }
 
 // Why bytes are no card.
-#[derive(Clone, Copy)]
+#[derive(Clone, Copy, Debug)]
 pub enum CardFault {
     // the bytes end within a field
     BytesEnd = 14,
@@ -28,14 +28,14 @@ pub enum CardFault {
 
 // Why a card is not read, with the first bit of the field at which that showed. Bits count from 0
 // at the top bit of the first byte.
-#[derive(Clone, Copy)]
+#[derive(Clone, Copy, Debug)]
 pub struct CardRefusal {
     pub fault: CardFault,
     pub bit: usize,
 }
 
 // Why a card is not copied: it cannot be read, or its copy cannot be written.
-#[derive(Clone, Copy)]
+#[derive(Clone, Copy, Debug)]
 pub enum CopyRefusal {
     Unread(CardRefusal),
     Unwritten(WriterRefusal),

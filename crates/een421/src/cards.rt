@@ -74,6 +74,9 @@ pub(crate) fn copy(rt: &LibcRuntime, from: &str, to: &str) -> Result<(), Failure
     if back.as_slice() != bytes.as_slice() {
         return Err(Failure::Changed(String::from_str(rt.alloc(), to)?));
     }
-    println!(rt, "copied {from} to {to}: {n} bytes, the same as they were")?;
+    println!(
+        rt,
+        "copied {from} to {to}: {n} bytes, the same as they were"
+    )?;
     Ok(())
 }

@@ -50,16 +50,25 @@ pub(crate) impl fmt::Display for Failure as FailureDisplay {
         match self {
             Failure::Usage => write!(f, "the arguments are no command; try `een421 help`"),
             Failure::Unreadable(file, error) => {
-                write!(f, "cannot read {file}: {error}; check its name, or make a card with `een421 card new FILE`")
+                write!(
+                    f,
+                    "cannot read {file}: {error}; check its name, or make a card with `een421 card new FILE`"
+                )
             }
             Failure::Unwritable(file, error) => {
-                write!(f, "cannot write {file}: {error}; check that its folder is there and may be written")
+                write!(
+                    f,
+                    "cannot write {file}: {error}; check that its folder is there and may be written"
+                )
             }
             Failure::NoCard(file, refusal) => {
                 let number = refusal.fault.number();
                 let bit = refusal.bit;
                 let what = card_meaning(refusal.fault);
-                write!(f, "{file} is no card: refusal {number} at bit {bit}: {what}; check that the file is whole and unchanged")
+                write!(
+                    f,
+                    "{file} is no card: refusal {number} at bit {bit}: {what}; check that the file is whole and unchanged"
+                )
             }
             Failure::Unfit(refusal) => {
                 let number = refusal.number();
@@ -67,7 +76,10 @@ pub(crate) impl fmt::Display for Failure as FailureDisplay {
                 write!(f, "the card cannot be written: refusal {number}: {what}")
             }
             Failure::Changed(file) => {
-                write!(f, "{file} does not hold what was written to it; check the disc, and write it again")
+                write!(
+                    f,
+                    "{file} does not hold what was written to it; check the disc, and write it again"
+                )
             }
             Failure::Console(error) => write!(f, "cannot use the terminal: {error}"),
             Failure::Memory => write!(f, "there is not enough memory"),

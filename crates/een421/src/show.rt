@@ -8,8 +8,30 @@ use std::alloc::AllocError;
 use std::alloc::Global;
 
 const NAMES: [&str; WORDS] = [
-    "R0", "R1", "R2", "R3", "R4", "R5", "R6", "R7", "R8", "R9", "R10", "R11", "R12", "PC", "SYSSP", "SYSFP", "USRSP", "USRFP", "PDBR",
-    "INTVEC", "CGBR", "CGLEN", "DEBUG", "TIMER",
+    "R0",
+    "R1",
+    "R2",
+    "R3",
+    "R4",
+    "R5",
+    "R6",
+    "R7",
+    "R8",
+    "R9",
+    "R10",
+    "R11",
+    "R12",
+    "PC",
+    "SYSSP",
+    "SYSFP",
+    "USRSP",
+    "USRFP",
+    "PDBR",
+    "INTVEC",
+    "CGBR",
+    "CGLEN",
+    "DEBUG",
+    "TIMER",
 ];
 
 const FLAGS: [&str; 7] = ["R", "Z", "N", "ERR", "SYS", "IP", "VM"];

@@ -1,9 +1,10 @@
 ghost use Prim.Native.Nat.{_%_, _<_};
-ghost use Rattle.record.specs.Contents.{contents, fresh-contents, switched, system-pair, user-pair, with-flags, with-system};
+ghost use Rattle.record.specs.Contents.{contents, fresh-contents, running-pair, switched, system-pair, user-pair, with-flags, with-system};
 ghost use Rattle.record.specs.Queue.{items};
 ghost use Rattle.record.specs.View.{View, Views-tell, contents-of, control-of, flags-word, fresh-view, pair-of, registers-of, view, view-with-flags, words as the-words};
 ghost use Rattle.std.specs.Orderings.{Decides};
 ghost use lib.ListN.{length};
+ghost use mathlib.Core.Bool.{cond};
 ghost use mathlib.Core.Path.{_≡_};
 use super::Record;
 use super::WORDS;
@@ -129,32 +130,39 @@ impl Record {
         }
     }
 
+    // SP and FP of the mode that runs.
+    fn running_pair(&self) -> StackPair
+        ensures { λ r. ⌜ r ≡ running-pair (contents (now (self .entry))) ⌝ }
+    {
+        StackPair {
+            sp: self.core.regs[13],
+            fp: self.core.regs[14],
+        }
+    }
+
+    // SP and FP of system or user mode.
+    fn pair(&self, system: bool) -> StackPair
+        ensures { λ r. ⌜ r ≡ cond system (system-pair (contents (now (self .entry)))) (user-pair (contents (now (self .entry)))) ⌝ }
+    {
+        if self.mode.system == system {
+            self.running_pair()
+        } else {
+            self.parked
+        }
+    }
+
     // SYSSP and SYSFP.
     pub fn system_pair(&self) -> StackPair
         ensures { λ r. ⌜ r ≡ system-pair (contents (now (self .entry))) ⌝ }
     {
-        if self.mode.system {
-            StackPair {
-                sp: self.core.regs[13],
-                fp: self.core.regs[14],
-            }
-        } else {
-            self.parked
-        }
+        self.pair(true)
     }
 
     // USRSP and USRFP.
     pub fn user_pair(&self) -> StackPair
         ensures { λ r. ⌜ r ≡ user-pair (contents (now (self .entry))) ⌝ }
     {
-        if self.mode.system {
-            self.parked
-        } else {
-            StackPair {
-                sp: self.core.regs[13],
-                fp: self.core.regs[14],
-            }
-        }
+        self.pair(false)
     }
 
     // The twenty-four words in their published order.
@@ -241,6 +249,7 @@ impl Record {
         self.mode = mode;
         self.core.conditions = Conditions::from_flags(word);
     }
+
     // Whether two records are the same, by their words, flags, keys and tray.
     pub fn same(&self, other: &Record) -> bool
         ensures { λ r. ⌜ Decides r (now (self .entry) ≡ now (other .entry)) ⌝ }

@@ -35,7 +35,7 @@ impl Queue {
         ensures value { λ r. ⌜ r ≡ length (items (now (self .entry))) ⌝ }
         ensures bound { λ r. ⌜ r ≤ 64 ⌝ }
     {
-        self.len
+        self.as_slice().len()
     }
 
     // What it holds, oldest first.
@@ -69,6 +69,7 @@ impl Queue {
         *self = Queue::from_slice(&self.bytes[cut..self.len]);
         front
     }
+
     // Whether two queues hold the same bytes.
     pub fn same(&self, other: &Queue) -> bool
         ensures { λ r. ⌜ Decides r (now (self .entry) ≡ now (other .entry)) ⌝ }
