@@ -211,12 +211,13 @@ turned-cond : (b : Bool) (n : ℕ) → turned (cond b (Ok n) (Err NoPlace)) ≡ 
 turned-cond true n = refl
 turned-cond false n = refl
 
-pub copied : (bytes out : List ℕ) (v : View) → AllBytes bytes → Ok v ≡ read bytes
-    → (turned (write-answer v out) ≡ copy-answer (read bytes) bytes out) × (after-write v out ≡ after-copy (read bytes) bytes out)
-copied bytes out v fit e =
+pub copied : (bytes out after : List ℕ) (v : View) (w : Result ℕ WriterRefusal) → AllBytes bytes → Ok v ≡ read bytes → w ≡ write-answer v out → after ≡ after-write v out
+    → (turned w ≡ copy-answer (read bytes) bytes out) × (after ≡ after-copy (read bytes) bytes out)
+copied bytes out after v w fit e ew ea =
     let n : size v ≡ length bytes = read-size bytes v fit (sym e) in
     let b : card v ≡ bytes = writes-back bytes v fit (sym e) in (
-      ap (λ k. turned (cond (leb k (length out)) (Ok k) (Err NoPlace))) n
-          ∙ (turned-cond (leb (length bytes) (length out)) (length bytes) ∙ ap (λ r. copy-answer r bytes out) e),
-      ap₂ (λ k l. cond (leb k (length out)) (l ++ drop k out) out) n b ∙ ap (λ r. after-copy r bytes out) e,
+      ap turned ew
+          ∙ (ap (λ k. turned (cond (leb k (length out)) (Ok k) (Err NoPlace))) n
+          ∙ (turned-cond (leb (length bytes) (length out)) (length bytes) ∙ ap (λ r. copy-answer r bytes out) e)),
+      ea ∙ (ap₂ (λ k l. cond (leb k (length out)) (l ++ drop k out) out) n b ∙ ap (λ r. after-copy r bytes out) e),
     )

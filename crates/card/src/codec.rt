@@ -21,9 +21,22 @@ use crate::refusal::FromWriter;
 use crate::refusal::WriterRefusal;
 use crate::writer::BitWriter;
 use record::machine::Record;
+use record::machine::WORDS;
 
 // The most bytes that a card has: 100, 64 keys and 64 tray characters.
 pub const LONGEST: usize = 228;
+
+// The first bits of the fields behind the edition. Behind the words come the keys, the tray and
+// the padding.
+const FLAGS_AT: usize = 4;
+
+const KEY_COUNT_AT: usize = 11;
+
+const TRAY_COUNT_AT: usize = 18;
+
+const WORDS_AT: usize = 25;
+
+const KEYS_AT: usize = WORDS_AT + 32 * WORDS;
 
 fn put_words(w: &mut BitWriter, words: &[u32])
     requires { ⌜ Ready (state (now w)) (32 * length (now words)) ⌝ }
@@ -90,13 +103,13 @@ pub fn read_card(bytes: &[u8]) -> Result<Record, CardRefusal>
     ensures { λ r. ⌜ mapped (λ m. view (contents m)) r ≡ the-card (now (bytes .entry)) ⌝ }
 {
     read_edition(bytes)?;
-    let flags = read_field(bytes, 4, 7)?;
-    let keyed = read_count(bytes, 11)?;
-    let trayed = read_count(bytes, 18)?;
-    let words = read_words(bytes, 25)?;
-    let keys = read_queue(bytes, 793, keyed)?;
-    let tray = read_queue(bytes, 793 + 8 * keyed, trayed)?;
-    read_end(bytes, 793 + 8 * keyed + 8 * trayed)?;
+    let flags = read_field(bytes, FLAGS_AT, 7)?;
+    let keyed = read_count(bytes, KEY_COUNT_AT)?;
+    let trayed = read_count(bytes, TRAY_COUNT_AT)?;
+    let words = read_words(bytes, WORDS_AT)?;
+    let keys = read_queue(bytes, KEYS_AT, keyed)?;
+    let tray = read_queue(bytes, KEYS_AT + 8 * keyed, trayed)?;
+    read_end(bytes, KEYS_AT + 8 * keyed + 8 * trayed)?;
     Ok(Record::new(&words, flags, keys, tray))
 }
 

@@ -37,7 +37,9 @@ pub struct CardRefusal {
 // Why a card is not copied: it cannot be read, or its copy cannot be written.
 #[derive(Clone, Copy, Debug)]
 pub enum CopyRefusal {
+    // refusals 14 to 18, with their bit
     Unread(CardRefusal),
+    // refusal 12
     Unwritten(WriterRefusal),
 }
 

@@ -7,17 +7,30 @@ pub(crate) enum Command<'a> {
     Help,
 }
 
+// What the words behind `card` ask for.
+fn card_command<'a>(words: &'a [String]) -> Option<Command<'a>> {
+    match words {
+        [verb, file] => match verb.as_str() {
+            "new" => Some(Command::New(file.as_str())),
+            "show" => Some(Command::Show(file.as_str())),
+            _ => None,
+        },
+        [verb, from, to] => match verb.as_str() {
+            "copy" => Some(Command::Copy(from.as_str(), to.as_str())),
+            _ => None,
+        },
+        _ => None,
+    }
+}
+
 // The command that the arguments spell, if they spell one.
 pub(crate) fn parse<'a>(args: &'a [String]) -> Option<Command<'a>> {
     match args {
-        [help] if help.as_str() == "help" || help.as_str() == "--help" => Some(Command::Help),
-        [card, new, file] if card.as_str() == "card" && new.as_str() == "new" =>
-            Some(Command::New(file.as_str())),
-        [card, show, file] if card.as_str() == "card" && show.as_str() == "show" =>
-            Some(Command::Show(file.as_str())),
-        [card, copy, from, to] if card.as_str() == "card" && copy.as_str() == "copy" => {
-            Some(Command::Copy(from.as_str(), to.as_str()))
-        }
-        _ => None,
+        [] => None,
+        [area, words @ ..] => match area.as_str() {
+            "card" => card_command(words),
+            "help" | "--help" => Some(Command::Help),
+            _ => None,
+        },
     }
 }

@@ -7,8 +7,8 @@ mod show;
 use command::Command;
 use failure::Failure;
 use failure::FailureDisplay;
+use failure::FromAlloc;
 use failure::FromConsole;
-use failure::FromRefused;
 use std::env;
 
 const USAGE: &str = "usage:
@@ -22,10 +22,7 @@ const USAGE: &str = "usage:
 struct Failed;
 
 fn run(rt: &LibcRuntime) -> Result<(), Failure> {
-    let mut args = Vec::new(rt.alloc());
-    for arg in env::args(rt)?.skip(1) {
-        args.push(arg)?;
-    }
+    let args: Vec<String> = env::args(rt)?.skip(1).collect(rt.alloc())?;
     match command::parse(args.as_slice()) {
         Some(Command::New(file)) => cards::new(rt, file),
         Some(Command::Show(file)) => cards::show(rt, file),
