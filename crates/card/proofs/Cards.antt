@@ -2,14 +2,13 @@
 use Prim.Native.Nat.{ℕ, _+_, _*_, _≤_}
 use mathlib.Core.Path.{_≡_, refl, _∙_, ap}
 use mathlib.Core.Bool.{true}
-use mathlib.Core.List.{List, [], _∷_, _++_}
+use mathlib.Core.List.{List, [], _++_}
 use native.Mathlib.Omega.{arith}
 use lib.Dec.{leb}
 use lib.ListN.{length, drop, length-append}
 use Rattle.std.proofs.shelf.Tests.{le-leb}
-use Rattle.std.specs.declared.result.Result.the-variants.{Ok, Err}
 use Rattle.record.specs.View.{View}
-use Rattle.card.specs.Bits.{bits, fields, pack, AllBits}
+use Rattle.card.specs.Bits.{bits, fields, AllBits}
 use Rattle.card.specs.Card.{card, card-bits, size, write-answer, after-write}
 use Rattle.card.specs.Writer.{State, run, room, start, padding, finish-answer, after-finish, Moved}
 use Rattle.card.proofs.Packs.{all-append, all-bits, all-fields, fields-long, pack-long, pack-run}

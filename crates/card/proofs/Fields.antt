@@ -1,21 +1,20 @@
 -- A field where its bits stand, and the bits where a field is read.
 use Prim.Native.Nat.{ℕ, zero, suc, _+_, _*_, _-_, _/_, _%_, _^_, _<_, _≤_}
 use mathlib.Core.Path.{_≡_, refl, sym, _∙_, ap, ap₂}
-use mathlib.Core.Bool.{Bool, true, false, cond}
+use mathlib.Core.Bool.{Bool, true, false}
 use mathlib.Core.List.{List, [], _∷_, _++_}
 use native.Mathlib.Nat.{zero-mul, suc-mul, add-mul, mul-assoc, mul-comm, pow-suc, mod-eq-of-lt, div-one, div-div-eq-div-mul}
 use native.Mathlib.Omega.{arith}
 use lib.Dec.{leb}
 use lib.ListN.{length, take, drop, getD}
 use Rattle.std.proofs.shelf.Bits.{mod-pow-add}
-use Rattle.std.proofs.shelf.Lists.{append-assoc, append-nil, drop-all, drop-at, drop-drop, length-drop, length-take-le, take-append-drop, take-at}
+use Rattle.std.proofs.shelf.Lists.{append-assoc, append-nil, drop-at, drop-drop, length-drop, length-take-le, take-append-drop, take-at}
 use Rattle.std.proofs.shelf.Tests.{le-leb, leb-true, cond-true, cond-false}
 use Rattle.std.specs.declared.result.Result.{Result}
 use Rattle.std.specs.declared.result.Result.the-variants.{Ok, Err}
 use Rattle.card.specs.Bits.{bits, fields, spelled, AllBits}
 use Rattle.card.specs.Card.{field, gather, refused, then}
 use Rattle.card.specs.declared.refusal.CardFault.the-variants.{BytesEnd}
-use Rattle.card.specs.declared.refusal.CardRefusal.{CardRefusal}
 use Rattle.card.proofs.Runs.{bits-long}
 
 -- one bit more of v

@@ -1,13 +1,13 @@
 -- The bytes that bits make, there and back.
-use Prim.Native.Nat.{ℕ, zero, suc, _+_, _*_, _-_, _/_, _%_, _^_, _<_, _≤_}
+use Prim.Native.Nat.{ℕ, zero, suc, _+_, _*_, _-_, _/_, _%_, _≤_}
 use mathlib.Core.Path.{_≡_, refl, sym, _∙_, ap, ap₂}
 use mathlib.Core.List.{List, [], _∷_, _++_}
 use native.Mathlib.Nat.{zero-mul, suc-mul}
 use native.Mathlib.Omega.{arith}
-use lib.ListN.{length, set, getD, drop, length-append}
+use lib.ListN.{length, set, drop, length-append}
 use Rattle.std.proofs.shelf.Lists.{set-at, append-assoc, length-push}
 use Rattle.card.specs.Bits.{bits, fields, stream, pack, AllBits, AllBytes}
-use Rattle.card.specs.Writer.{State, run, Puts-pack}
+use Rattle.card.specs.Writer.{run, Puts-pack}
 use Rattle.card.proofs.Runs.{bits-long}
 
 pub all-append : (xs ys : List ℕ) → AllBits xs → AllBits ys → AllBits (xs ++ ys)

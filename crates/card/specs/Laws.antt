@@ -6,7 +6,7 @@ use mathlib.Core.List.{List, _++_}
 use lib.Dec.{leb}
 use lib.ListN.{length, getD, drop}
 use Rattle.card.specs.Bits.{AllBytes}
-use Rattle.card.specs.Card.{card, read, size, then}
+use Rattle.card.specs.Card.{card, read, size}
 use Rattle.card.specs.declared.refusal.CardRefusal.{CardRefusal}
 use Rattle.card.specs.declared.refusal.CopyRefusal.{CopyRefusal}
 use Rattle.card.specs.declared.refusal.CopyRefusal.the-variants.{Unread, Unwritten}

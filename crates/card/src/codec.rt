@@ -1,5 +1,5 @@
 ghost use Prim.Native.Nat.{_*_, _^_, _<_, ℕ};
-ghost use Rattle.card.specs.Bits.{AllBytes, fields};
+ghost use Rattle.card.specs.Bits.{fields};
 ghost use Rattle.card.specs.Card.{after-write, card-bits, mapped, read as the-card, size, write-answer};
 ghost use Rattle.card.specs.Laws.{Proper, Reads-back, Writes-back, after-copy, checked-answer, copy-answer};
 ghost use Rattle.card.specs.Writer.{Moved, Ready, lent, run, state};
@@ -38,6 +38,7 @@ const WORDS_AT: usize = 25;
 
 const KEYS_AT: usize = WORDS_AT + 32 * WORDS;
 
+// Puts words, 32 bits each.
 fn put_words(w: &mut BitWriter, words: &[u32])
     requires { ⌜ Ready (state (now w)) (32 * length (now words)) ⌝ }
     ensures same { λ _. ⌜ lent (now (w .exit)) ≡ lent (now (w .entry)) ⌝ }
@@ -45,11 +46,12 @@ fn put_words(w: &mut BitWriter, words: &[u32])
     ensures moved { λ _. ⌜ Moved (state (now (w .entry))) (state (now (w .exit))) (32 * length (now (words .entry))) ⌝ }
     ensures fit { λ _. ⌜ ((i : ℕ) → getD (now (words .entry)) i 0 < 2 ^ 32) ⌝ }
 {
-    for i in 0..words.len() {
-        w.put_known(words[i], 32);
+    for word in words {
+        w.put_known(*word, 32);
     }
 }
 
+// Puts characters, 8 bits each.
 fn put_bytes(w: &mut BitWriter, bytes: &[u8])
     requires { ⌜ Ready (state (now w)) (8 * length (now bytes)) ⌝ }
     ensures same { λ _. ⌜ lent (now (w .exit)) ≡ lent (now (w .entry)) ⌝ }
@@ -57,11 +59,12 @@ fn put_bytes(w: &mut BitWriter, bytes: &[u8])
     ensures moved { λ _. ⌜ Moved (state (now (w .entry))) (state (now (w .exit))) (8 * length (now (bytes .entry))) ⌝ }
     ensures fit { λ _. ⌜ ((i : ℕ) → getD (now (bytes .entry)) i 0 < 2 ^ 8) ⌝ }
 {
-    for i in 0..bytes.len() {
-        w.put_known(u32::from(bytes[i]), 8);
+    for byte in bytes {
+        w.put_known(u32::from(*byte), 8);
     }
 }
 
+// Puts a machine record's card, field by field.
 fn put_card(w: &mut BitWriter, machine: &Record)
     requires { ⌜ Ready (state (now w)) (8 * size (view (contents (now machine)))) ⌝ }
     ensures same { λ _. ⌜ lent (now (w .exit)) ≡ lent (now (w .entry)) ⌝ }

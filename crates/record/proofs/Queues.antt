@@ -1,13 +1,13 @@
 -- A queue as the list that it holds, and the zeros behind.
-use Prim.Native.Nat.{ℕ, suc, min, _+_, _-_, _≤_, _<_}
+use Prim.Native.Nat.{ℕ, min, _+_, _-_, _≤_, _<_}
 use mathlib.Core.Path.{_≡_, refl, sym, _∙_, ap}
-use mathlib.Core.List.{List, [], _∷_, _++_}
+use mathlib.Core.List.{List}
 use mathlib.Core.Logic.{⊎-elim}
 use native.Mathlib.Omega.{arith}
-use lib.ListN.{length, getD, set, take, drop, replicate}
+use lib.ListN.{length, set, take, drop, replicate}
 use Rattle.std.proofs.shelf.Lists.{drop-all, drop-drop, drop-replicate, drop-set-lt, drop-take, length-take, length-take-le, take-all, take-more-set, take-take}
 use Rattle.std.proofs.shelf.Tests.{cases-lt, cond-true, lt-ltb}
-use Rattle.std.specs.declared.result.Result.the-variants.{Ok, Err}
+use Rattle.std.specs.declared.result.Result.the-variants.{Ok}
 use Rattle.record.specs.Queue.{items, push-answer, after-push}
 use Rattle.record.specs.declared.queue.Queue.{Queue}
 

@@ -1,19 +1,18 @@
 -- Two records with the same published form are the same value.
 use Prim.Native.Nat.{ℕ, _-_, _≤_}
-use mathlib.Core.Path.{_≡_, refl, sym, _∙_, ap, ap₂}
+use mathlib.Core.Path.{_≡_, sym, _∙_, ap, ap₂}
 use mathlib.Core.Bool.{Bool, _&&_}
 use mathlib.Core.HLevel.{isProp→PathP}
-use mathlib.Core.List.{List, [], _∷_, _++_, List·isSet}
+use mathlib.Core.List.{List, _++_, List·isSet}
 use native.Mathlib.Bridge.{le-prop}
 use native.Mathlib.Nat.{ℕ-set}
-use native.Mathlib.Omega.{arith}
-use lib.ListN.{length, take, drop, replicate}
+use lib.ListN.{length, drop, replicate}
 use Rattle.std.proofs.shelf.Lists.{take-append-drop}
 use Rattle.std.proofs.shelf.Ways.{decides-and, decides-like}
 use Rattle.std.specs.Orderings.{Decides}
 use Rattle.record.specs.Contents.{Contents, contents}
 use Rattle.record.specs.Queue.{items}
-use Rattle.record.specs.View.{Views-tell, contents-of, flags-word, view, words}
+use Rattle.record.specs.View.{Views-tell, contents-of, flags-word, words}
 use Rattle.record.specs.declared.machine.Record.{Record}
 use Rattle.record.specs.declared.queue.Queue.{Queue}
 use Rattle.record.proofs.Queues.{items-long}

@@ -1,15 +1,16 @@
 -- The published form of a machine record.
-use Prim.Native.Nat.{ℕ, _+_, _%_, _≤_, _<_}
+use Prim.Native.Nat.{ℕ, _+_, _%_, _≤_}
 use mathlib.Core.Path.{_≡_, refl, sym, _∙_, ap, ap₂, subst}
-use mathlib.Core.Bool.{Bool, true, false, cond, not}
+use mathlib.Core.Bool.{Bool, true, false, not}
 use mathlib.Core.List.{List, [], _∷_, _++_}
 use native.Mathlib.Omega.{arith}
 use lib.ListN.{length, getD, set, take}
 use Rattle.std.proofs.shelf.Lists.{getD-set-same, getD-set-other, length-set, take-all, take-set-le}
-use Rattle.record.specs.Contents.{Contents, register, system-pair, user-pair, with-flags, with-system}
+use Rattle.std.proofs.shelf.Tests.{cond-false, cond-true}
+use Rattle.record.specs.Contents.{Contents, register, system-pair, switched, user-pair, with-flags, with-system, flagged}
 use Rattle.record.specs.Flags.{flags-from, conditions-of, mode-of}
 use Rattle.record.specs.Pdbr.{pdbr-word}
-use Rattle.record.specs.View.{View, arranged, contents-of, control-of, flags-word, pair-of, registers-of, view, view-with-flags, words}
+use Rattle.record.specs.View.{arranged, contents-of, control-of, pair-of, registers-of, view, view-with-flags, words}
 use Rattle.record.specs.declared.state.Conditions.{Conditions}
 use Rattle.record.specs.declared.state.Control.{Control}
 use Rattle.record.specs.declared.state.Mode.{Mode}
@@ -32,6 +33,10 @@ words-are c s u p h es eu ep =
 pub registers-are : (ws : List ℕ) (pair : StackPair) → 13 ≤ length ws → listing 13 0 ws ++ (pair .sp ∷ pair .fp ∷ getD ws 13 0 ∷ []) ≡ registers-of ws pair
 registers-are ws pair h = ap (λ l. l ++ (pair .sp ∷ pair .fp ∷ getD ws 13 0 ∷ [])) (sym (listed 13 0 ws h))
 
+twice : (b : Bool) → not (not b) ≡ b
+twice true = refl
+twice false = refl
+
 -- registers 13 and 14 written, as a change of mode does
 traded : (regs : List ℕ) (a b : ℕ) → length regs ≡ 16
     → (take 13 (set (set regs 13 a) 14 b) ≡ take 13 regs) × (getD (set (set regs 13 a) 14 b) 13 0 ≡ a)
@@ -45,24 +50,42 @@ traded regs a b h =
       getD-set-other one 14 15 b 0 (omega arith) ∙ getD-set-other regs 13 15 a 0 (omega arith),
     )
 
--- setting the flags keeps the words
-pub flags-set : (c : Contents) (f : ℕ) → length (c .core .regs) ≡ 16 → view (with-flags c f) ≡ view-with-flags (view c) f
-flags-set c f h = go (c .mode .system) refl (mode-of f .system) refl
+-- a change of mode keeps the words
+pub switched-words : (c : Contents) → length (c .core .regs) ≡ 16 → words (switched c) ≡ words c
+switched-words c h = go (c .mode .system) refl
   where
-    low : flags-from (conditions-of f) (mode-of f) ≡ f % 128
-    low = flags-there f
+    go : (s : Bool) → c .mode .system ≡ s → words (switched c) ≡ words c
+    go true e = let t = traded (c .core .regs) (c .parked .sp) (c .parked .fp) h in rw (e, t .0, t .1, t .2, t .3) refl
+    go false e = let t = traded (c .core .regs) (c .parked .sp) (c .parked .fp) h in rw (e, t .0, t .1, t .2, t .3) refl
 
-    t : (take 13 (set (set (c .core .regs) 13 (c .parked .sp)) 14 (c .parked .fp)) ≡ take 13 (c .core .regs))
-        × (getD (set (set (c .core .regs) 13 (c .parked .sp)) 14 (c .parked .fp)) 13 0 ≡ c .parked .sp)
-        × (getD (set (set (c .core .regs) 13 (c .parked .sp)) 14 (c .parked .fp)) 14 0 ≡ c .parked .fp)
-        × (getD (set (set (c .core .regs) 13 (c .parked .sp)) 14 (c .parked .fp)) 15 0 ≡ getD (c .core .regs) 15 0)
-    t = traded (c .core .regs) (c .parked .sp) (c .parked .fp) h
+-- setting SYS sets SYS, and keeps words, keys and tray
+pub system-set : (c : Contents) (on : Bool) → length (c .core .regs) ≡ 16
+    → (words (with-system c on) ≡ words c) × (with-system c on .mode .system ≡ on) × (with-system c on .keys ≡ c .keys) × (with-system c on .tray ≡ c .tray)
+system-set c on h = go (c .mode .system) refl on
+  where
+    stays : (d : Contents) (o : Bool) → d ≡ c → c .mode .system ≡ o → (words d ≡ words c) × (d .mode .system ≡ o) × (d .keys ≡ c .keys) × (d .tray ≡ c .tray)
+    stays d o e es = (ap words e, ap (λ x. x .mode .system) e ∙ es, ap (λ x. x .keys) e, ap (λ x. x .tray) e)
 
-    go : (s : Bool) → c .mode .system ≡ s → (o : Bool) → mode-of f .system ≡ o → view (with-flags c f) ≡ view-with-flags (view c) f
-    go true es true eo = rw (low, es, eo) refl
-    go true es false eo = rw (low, es, eo, t .0, t .1, t .2, t .3) refl
-    go false es true eo = rw (low, es, eo, t .0, t .1, t .2, t .3) refl
-    go false es false eo = rw (low, es, eo) refl
+    turns : (d : Contents) (o : Bool) → d ≡ switched c → c .mode .system ≡ not o → (words d ≡ words c) × (d .mode .system ≡ o) × (d .keys ≡ c .keys) × (d .tray ≡ c .tray)
+    turns d o e es =
+        (ap words e ∙ switched-words c h, ap (λ x. x .mode .system) e ∙ (ap not es ∙ twice o), ap (λ x. x .keys) e, ap (λ x. x .tray) e)
+
+    go : (s : Bool) → c .mode .system ≡ s → (o : Bool)
+        → (words (with-system c o) ≡ words c) × (with-system c o .mode .system ≡ o) × (with-system c o .keys ≡ c .keys) × (with-system c o .tray ≡ c .tray)
+    go true es true = stays (with-system c true) true (cond-true _ _ _ es) es
+    go true es false = turns (with-system c false) false (cond-true _ _ _ es) es
+    go false es true = turns (with-system c true) true (cond-false _ _ _ es) es
+    go false es false = stays (with-system c false) false (cond-false _ _ _ es) es
+
+flagged-words : (d : Contents) (f : ℕ) → d .mode .system ≡ mode-of f .system → words (flagged d f) ≡ words d
+flagged-words d f e = rw e refl
+
+-- setting the flags sets the flags, and keeps words, keys and tray
+pub flags-set : (c : Contents) (f : ℕ) → length (c .core .regs) ≡ 16 → view (with-flags c f) ≡ view-with-flags (view c) f
+flags-set c f h =
+    let x = system-set c (mode-of f .system) h in
+    let w : words (with-flags c f) ≡ words c = flagged-words (with-system c (mode-of f .system)) f (x .1) ∙ x .0 in
+    λ i. record { words = w i; flags = flags-there f i; keys = x .2 i; tray = x .3 i }
 
 pub flags-after : (c d : Contents) (f : ℕ) (k : Conditions) (m : Mode) → k ≡ conditions-of f → m ≡ mode-of f → d ≡ with-system c (m .system)
     → record { core = record { regs = d .core .regs; conditions = k }; mode = m; parked = d .parked; control = d .control; keys = d .keys; tray = d .tray } ≡ with-flags c f

@@ -6,7 +6,6 @@ use lib.ListN.{getD, set, replicate}
 use Rattle.record.specs.Flags.{conditions-of, mode-of}
 use Rattle.record.specs.Queue.{items}
 use Rattle.record.specs.declared.machine.Record.{Record}
-use Rattle.record.specs.declared.pdbr.Pdbr.{Pdbr}
 use Rattle.record.specs.declared.state.Control.{Control}
 use Rattle.record.specs.declared.state.Core.{Core}
 use Rattle.record.specs.declared.state.Mode.{Mode}

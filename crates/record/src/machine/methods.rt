@@ -1,7 +1,7 @@
 ghost use Prim.Native.Nat.{_%_, _<_};
 ghost use Rattle.record.specs.Contents.{contents, fresh-contents, running-pair, switched, system-pair, user-pair, with-flags, with-system};
 ghost use Rattle.record.specs.Queue.{items};
-ghost use Rattle.record.specs.View.{View, Views-tell, contents-of, control-of, flags-word, fresh-view, pair-of, registers-of, view, view-with-flags, words as the-words};
+ghost use Rattle.record.specs.View.{Views-tell, contents-of, control-of, flags-word, fresh-view, pair-of, registers-of, view, view-with-flags, words as the-words};
 ghost use Rattle.std.specs.Orderings.{Decides};
 ghost use lib.ListN.{length};
 ghost use mathlib.Core.Bool.{cond};
@@ -232,7 +232,8 @@ impl Record {
 
     // Turns SYS on or off. Where that changes the mode, the pair of the new one runs.
     pub fn set_system(&mut self, on: bool)
-        ensures { λ _. ⌜ contents (now (self .exit)) ≡ with-system (contents (now (self .entry))) on ⌝ }
+        ensures after { λ _. ⌜ contents (now (self .exit)) ≡ with-system (contents (now (self .entry))) on ⌝ }
+        ensures words { λ _. ⌜ the-words (contents (now (self .exit))) ≡ the-words (contents (now (self .entry))) ⌝ }
     {
         if self.mode.system != on {
             self.switch_mode();

@@ -1,5 +1,4 @@
 use Rattle.std.proofs.shelf.Results.{err-from-errBy}
-use Rattle.std.specs.declared.result.Result.the-variants.{Ok, Err}
 use Rattle.record.specs.Contents.{contents}
 use Rattle.record.specs.View.{view}
 use Rattle.card.proofs.Trips.{copied}

@@ -1,9 +1,8 @@
-use mathlib.Core.Path.{_≡_, _∙_, ap}
+use mathlib.Core.Path.{_∙_, ap}
 use native.Mathlib.Omega.{arith}
 use lib.ListN.{length}
 use Rattle.record.specs.Contents.{contents}
 use Rattle.record.specs.View.{view}
-use Rattle.card.specs.Writer.{state}
 use Rattle.card.proofs.Cards.{card-run}
 use Rattle.card.proofs.codec.put_card.Needs as need
 

@@ -7,7 +7,7 @@ use Rattle.std.specs.Vec.{made}
 use Rattle.std.specs.declared.result.Result.{Result}
 use Rattle.std.specs.declared.result.Result.the-variants.{Ok, Err}
 use Rattle.record.specs.Contents.{contents}
-use Rattle.record.specs.View.{View, view}
+use Rattle.record.specs.View.{view}
 use Rattle.card.specs.Card.{after-write, size}
 use Rattle.card.specs.Writer.{state}
 use Rattle.card.proofs.Cards.{finish-card}
