@@ -97,7 +97,7 @@ impl<'a> BitWriter<'a> {
         if !fits(self.out.len(), from, width) {
             return Err(WriterRefusal::NoPlace);
         }
-        self.place = store(self.out, from, value, width);
+        self.put_known(value, width);
         Ok(())
     }
 
