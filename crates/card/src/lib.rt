@@ -1,4 +1,6 @@
 // Machine cards: a machine record as bytes, written through a bit writer and read back.
+#![tactic(auto)]
+
 pub mod codec;
 mod place;
 mod reader;

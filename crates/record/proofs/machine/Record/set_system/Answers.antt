@@ -6,4 +6,4 @@ use Rattle.record.proofs.machine.Record.set_system.Goals as goal
 
 pub returns-then-self-on : goal.returns-then-self-on
 returns-then-self-on c =
-    record { after = search rules; words = ap words c.switch-mode.ensures ∙ switched_words (contents c.args.self.now) c.args.self.now.sized }
+    record { after = search rules; words = ap words c.switch_mode.ensures ∙ switched_words (contents c.args.self.now) c.args.self.now.sized }

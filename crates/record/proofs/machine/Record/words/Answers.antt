@@ -6,6 +6,6 @@ use Rattle.record.proofs.machine.Record.words.Goals as goal
 pub returns : goal.returns
 returns c =
     record {
-      value = words_are (contents c.args.self.now) _ _ _ (omega arith) c.system-pair-system.ensures c.user-pair-user.ensures c.word.ensures;
+      value = words_are (contents c.args.self.now) _ _ _ (omega arith) c.system_pair-system.ensures c.user_pair-user.ensures c.word.ensures;
       len = refl;
     }

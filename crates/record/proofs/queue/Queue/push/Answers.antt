@@ -3,8 +3,8 @@ use Rattle.std.proofs.lemmas.List.{length-set}
 use Rattle.record.proofs.Queues.{blank_more, push_ok}
 use Rattle.record.proofs.queue.Queue.push.Goals as goal
 
-pub invariant-of-self : goal.invariant-of-self
-invariant-of-self c =
+pub invariant_of-self : goal.invariant_of-self
+invariant_of-self c =
     (simp length-set (omega arith), (omega arith, (blank_more _ _ _ _ c.if-self-ge64.false c.args.self.now.blank, tt)))
 
 pub returns : goal.returns

@@ -7,8 +7,8 @@ use Rattle.record.proofs.queue.Queue.same.Goals as goal
 
 pub returns : goal.returns
 returns c =
-    let p = c.as-slice.ensures.value in
-    let q = c.as-slice-2.ensures.value in
+    let p = c.as_slice.ensures.value in
+    let q = c.as_slice-2.ensures.value in
     Decides-like c.eq.result
     (λ e. queue_same c.args.self.now c.args.other.now (sym p ∙ (e ∙ q)))
     (λ e. p ∙ (ap items e ∙ sym q))
