@@ -5,7 +5,7 @@ use Rattle.record.proofs.queue.Queue.push.Goals as goal
 
 pub invariant_of-self : goal.invariant_of-self
 invariant_of-self c =
-    (simp length-set (omega arith), (omega arith, (blank_more _ _ _ _ c.if-self-ge64.false c.args.self.now.blank, tt)))
+    record { sized = simp length-set (omega arith); few = omega arith; blank = blank_more _ _ _ _ c.if-self-ge64.false c.args.self.now.blank }
 
 pub returns : goal.returns
 returns c =
