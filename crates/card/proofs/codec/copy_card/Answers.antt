@@ -4,17 +4,17 @@ use Rattle.record.specs.View.{view}
 use Rattle.card.proofs.Trips.{copied}
 use Rattle.card.proofs.codec.copy_card.Goals as goal
 
-pub returns-in-err-write-card : goal.returns-in-err-write-card
-returns-in-err-write-card c =
-    let w = c.in-err-write-card.ensures in
-    let p = err_from_is_err_and c.from-residual-in-err-write-card.result c.from-residual-in-err-write-card.ensures.1 in
-    let t = copied c.args.bytes.now c.args.out.now c.write-card.new.out (view (contents c.in-ok-machine.machine)) _
-    (λ i. (c.type-inv.bytes i).fits) c.in-ok-machine.ensures w.answer w.after in
+pub returns-in_err-write_card : goal.returns-in_err-write_card
+returns-in_err-write_card c =
+    let w = c.in_err-write_card.ensures in
+    let p = err_from_is_err_and c.from_residual-in_err-write_card.result c.from_residual-in_err-write_card.ensures.1 in
+    let t = copied c.args.bytes.now c.args.out.now c.write_card.new.out (view (contents c.in_ok-machine.machine)) _
+    (λ i. (c.type_inv.bytes i).fits) c.in_ok-machine.ensures w.answer w.after in
     record { answer = rw (p.1, p.2) t.0; after = t.1 }
 
 pub returns : goal.returns
 returns c =
-    let w = c.in-ok-write-card.ensures in
-    let t = copied c.args.bytes.now c.args.out.now c.write-card.new.out (view (contents c.in-ok-machine.machine)) _
-    (λ i. (c.type-inv.bytes i).fits) c.in-ok-machine.ensures w.answer w.after in
+    let w = c.in_ok-write_card.ensures in
+    let t = copied c.args.bytes.now c.args.out.now c.write_card.new.out (view (contents c.in_ok-machine.machine)) _
+    (λ i. (c.type_inv.bytes i).fits) c.in_ok-machine.ensures w.answer w.after in
     record { answer = t.0; after = t.1 }

@@ -6,17 +6,17 @@ use Rattle.card.proofs.codec.put_card.Goals as goal
 
 pub returns : goal.returns
 returns c =
-    let p1 = c.put-known.ensures in
-    let p2 = c.put-known-2.ensures in
-    let p3 = c.put-known-3.ensures in
-    let p4 = c.put-known-4.ensures in
-    let p5 = c.put-words.ensures in
-    let p6 = c.put-bytes.ensures in
-    let p7 = c.put-bytes-2.ensures in
-    let p8 = c.put-known-5.ensures in
+    let p1 = c.put_known.ensures in
+    let p2 = c.put_known-2.ensures in
+    let p3 = c.put_known-3.ensures in
+    let p4 = c.put_known-4.ensures in
+    let p5 = c.put_words.ensures in
+    let p6 = c.put_bytes.ensures in
+    let p7 = c.put_bytes-2.ensures in
+    let p8 = c.put_known-5.ensures in
     let ws = c.words-words.ensures.value in
-    let ks = c.as-slice-keys.ensures.value in
-    let ts = c.as-slice-tray.ensures.value in
+    let ks = c.as_slice-keys.ensures.value in
+    let ts = c.as_slice-tray.ensures.value in
     let lw = ap length ws in
     let n = c.words-words.ensures.len in
     let lk = ap length ks in

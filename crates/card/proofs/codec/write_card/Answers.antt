@@ -13,9 +13,9 @@ made_all (Err y) p = tt
 pub returns : goal.returns
 returns c =
     let v = view (contents c.args.machine.now) in
-    let proper = c.put-card.ensures.proper in
+    let proper = c.put_card.ensures.proper in
     let le : size v ≤ length c.args.out.now = omega arith in
-    let r = finish_card v c.args.out.now (state c.new-w.result) (state c.put-card.new.w) proper.all le
-    c.new-w.ensures.after c.put-card.ensures.after c.put-card.ensures.moved in
+    let r = finish_card v c.args.out.now (state c.new-w.result) (state c.put_card.new.w) proper.all le
+    c.new-w.ensures.after c.put_card.ensures.after c.put_card.ensures.moved in
     let fin : c.finish.new.self.0 ≡ after_write v c.args.out.now = c.finish.ensures.after ∙ r.1 in
     record { answer = c.finish.ensures.answer ∙ r.0; after = search rules; proper = made_all c.finish.result proper }

@@ -2,8 +2,8 @@ use Rattle.std.proofs.Common.{arith}
 use Rattle.card.proofs.Streams.{field_ends, field_fits}
 use Rattle.card.proofs.reader.read_field.Goals as goal
 
-pub returns-then-div-ceil-bytes : goal.returns-then-div-ceil-bytes
-returns-then-div-ceil-bytes c =
+pub returns-then-div_ceil-bytes : goal.returns-then-div_ceil-bytes
+returns-then-div_ceil-bytes c =
     record { value = field_ends c.args.bytes.now c.args.at c.args.width (omega arith); bound = tt }
 
 pub returns : goal.returns

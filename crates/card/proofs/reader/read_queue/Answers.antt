@@ -5,15 +5,15 @@ use Rattle.card.specs.Bits.{stream}
 use Rattle.card.proofs.Streams.{gather_ok, gather_err, gather_none, pushed}
 use Rattle.card.proofs.reader.read_queue.Goals as goal
 
-pub returns-in-err-character : goal.returns-in-err-character
-returns-in-err-character c =
-    let v = c.in-err-character.ensures.value in
+pub returns-in_err-character : goal.returns-in_err-character
+returns-in_err-character c =
+    let v = c.in_err-character.ensures.value in
     let e = gather_err (items c.loop-left.queue) (stream c.args.bytes.now) c.loop-left.at 8 c.loop-left.left _ c.loop-left-test.true (sym v) in
     search rules
 
 pub loop-left-preserved : goal.loop-left-preserved
 loop-left-preserved c =
-    let v = c.in-ok-character.ensures.value in
+    let v = c.in_ok-character.ensures.value in
     let e = gather_ok (items c.loop-left.queue) (stream c.args.bytes.now) c.loop-left.at 8 c.loop-left.left _ c.loop-left-test.true (sym v) in
     let p = c.push.ensures.after ∙ pushed (items c.loop-left.queue) _ (omega arith) in
     let l = ap length p ∙ length_push _ _ in

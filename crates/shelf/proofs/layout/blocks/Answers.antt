@@ -5,6 +5,6 @@ use Rattle.std.proofs.Common.{sum, ap, ◌∙◌, arith}
 pub returns : goal.returns
 returns c =
     record {
-      value = c.blocks-before.ensures.value ∙ ap sum (take_all 8 c.args.plan.now.sizes (omega (arith, c.args.plan.now.eight)));
-      bound = c.blocks-before.ensures.bound;
+      value = c.blocks_before.ensures.value ∙ ap sum (take_all 8 c.args.plan.now.sizes (omega (arith, c.args.plan.now.eight)));
+      bound = c.blocks_before.ensures.bound;
     }

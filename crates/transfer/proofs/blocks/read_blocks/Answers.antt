@@ -20,20 +20,20 @@ loop-i-preserved g c =
     let m = g.S.Shelf.meaning c.args.shelf.now in
     let d = c.args.extent.drive in
     let b = c.args.extent.first + c.loop-i.i in
-    let h = there_read m d b c.read.result c.in-ok-read.field-0 c.read.ensures.answer c.in-ok-read.was in
+    let h = there_read m d b c.read.result c.in_ok-read.field-0 c.read.ensures.answer c.in_ok-read.was in
     let n = near m d b g.S.Shelf.most h (g.met.S.Shelf.bounded c.args.shelf.now d) g.met.S.Shelf.offered in (
       omega arith,
       c.scatter.ensures.len ∙ c.loop-i.invariant.1,
-      goes_on (answers_read m c.args.extent) (left_read m c.args.extent c.args.span) c.args.extent c.args.memory.now c.loop-i.memory c.scatter.new.memory c.loop-i.i c.read.result c.in-ok-read.field-0 c.loop-i-test.true c.read.ensures.answer c.in-ok-read.was
+      goes_on (answers_read m c.args.extent) (left_read m c.args.extent c.args.span) c.args.extent c.args.memory.now c.loop-i.memory c.scatter.new.memory c.loop-i.i c.read.result c.in_ok-read.field-0 c.loop-i-test.true c.read.ensures.answer c.in_ok-read.was
           (scatters m c.args.extent c.args.span c.loop-i.memory c.scatter.new.memory c.read.new.out c.loop-i.block b (128 * c.loop-i.i) h c.read.ensures.after c.scatter.ensures.value)
           c.loop-i.invariant.2,
     )
 
-pub returns-in-err-read : goal.returns-in-err-read
-returns-in-err-read g c =
+pub returns-in_err-read : goal.returns-in_err-read
+returns-in_err-read g c =
     let m = g.S.Shelf.meaning c.args.shelf.now in
-    let s = stops (answers_read m c.args.extent) (left_read m c.args.extent c.args.span) c.args.extent (length c.args.memory.now) c.args.span c.args.memory.now c.loop-i.memory c.loop-i.memory c.loop-i.i c.read.result c.in-err-read.field-0.0 c.if-not-reaches.ensures c.loop-i-test.true c.read.ensures.answer c.in-err-read.was refl c.loop-i.invariant.2 in
-    record { answer = goes_out c.from-residual.result _ c.in-err-read.field-0.0 c.from-residual.ensures.1 s.0; after = s.1 }
+    let s = stops (answers_read m c.args.extent) (left_read m c.args.extent c.args.span) c.args.extent (length c.args.memory.now) c.args.span c.args.memory.now c.loop-i.memory c.loop-i.memory c.loop-i.i c.read.result c.in_err-read.field-0.0 c.if-not-reaches.ensures c.loop-i-test.true c.read.ensures.answer c.in_err-read.was refl c.loop-i.invariant.2 in
+    record { answer = goes_out c.from_residual.result _ c.in_err-read.field-0.0 c.from_residual.ensures.1 s.0; after = s.1 }
 
 pub returns : goal.returns
 returns g c =

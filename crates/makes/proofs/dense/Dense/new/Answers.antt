@@ -3,15 +3,15 @@ use Rattle.makes.proofs.Densely.{dense_makes, dense_room}
 use Rattle.makes.proofs.dense.Dense.new.Goals as goal
 use Rattle.makes.specs.Dense.{dense}
 
-pub invariant-of-result : goal.invariant-of-result
-invariant-of-result c =
-    let room = dense_room c.args.plan.now.sizes (length c.args.words.now) c.check-checked.result c.kept-plan.result.sizes c.check-checked.ensures c.kept-plan.ensures in
-    (subst (λ xs. 128 * sum c.kept-plan.result.sizes ≤ length xs) (sym c.new.ensures.same) room, (c.new.ensures.fit, tt))
+pub invariant_of-result : goal.invariant_of-result
+invariant_of-result c =
+    let room = dense_room c.args.plan.now.sizes (length c.args.words.now) c.check-checked.result c.kept_plan.result.sizes c.check-checked.ensures c.kept_plan.ensures in
+    (subst (λ xs. 128 * sum c.kept_plan.result.sizes ≤ length xs) (sym c.new.ensures.same) room, (c.new.ensures.fit, tt))
 
 pub returns : goal.returns
 returns c =
     record {
-      made = ap (dense c.kept-plan.result.sizes) c.new.ensures.same ∙ dense_makes c.args.plan.now.sizes c.args.words.now c.check-checked.result c.kept-plan.result.sizes c.check-checked.ensures c.kept-plan.ensures;
+      made = ap (dense c.kept_plan.result.sizes) c.new.ensures.same ∙ dense_makes c.args.plan.now.sizes c.args.words.now c.check-checked.result c.kept_plan.result.sizes c.check-checked.ensures c.kept_plan.ensures;
       same = c.new.ensures.same;
       lent = c.new.ensures.lent;
     }

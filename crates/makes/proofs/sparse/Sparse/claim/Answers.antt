@@ -5,13 +5,13 @@ use Rattle.makes.specs.Slot.{taken}
 use Rattle.std.proofs.lemmas.List.{length-set}
 use Rattle.std.proofs.Common.{refl, arith}
 
-pub invariant-of-self : goal.invariant-of-self
-invariant-of-self c =
-    let p = c.in-Some-idle-slot.ensures in
-    let l = length-set c.args.self.now.slots.now c.in-Some-idle-slot.i (taken c.args.drive c.args.block) in (
+pub invariant_of-self : goal.invariant_of-self
+invariant_of-self c =
+    let p = c.in-Some-idle_slot.ensures in
+    let l = length-set c.args.self.now.slots.now c.in-Some-idle_slot.i (taken c.args.drive c.args.block) in (
       c.args.self.now.few,
       (
-        kept_apart c.args.self.now.slots.now c.args.drive c.args.block c.in-Some-idle-slot.i c.args.self.now.apart c.in-default.ensures p.0 (omega arith),
+        kept_apart c.args.self.now.slots.now c.args.drive c.args.block c.in-Some-idle_slot.i c.args.self.now.apart c.in_default.ensures p.0 (omega arith),
         (
           (λ d b h. let r = c.args.self.now.room d b h in omega arith),
           (c.args.self.now.fit, tt),
@@ -19,7 +19,7 @@ invariant-of-self c =
       ),
     )
 
-pub returns-in-default-idle-slot : goal.returns-in-default-idle-slot
-returns-in-default-idle-slot c =
-    let n = claims_none c.args.self.now.slots.now c.args.drive c.args.block c.in-default.ensures c.in-default-idle-slot.ensures in
+pub returns-in_default-idle_slot : goal.returns-in_default-idle_slot
+returns-in_default-idle_slot c =
+    let n = claims_none c.args.self.now.slots.now c.args.drive c.args.block c.in_default.ensures c.in_default-idle_slot.ensures in
     record { plan = refl; words = refl; lent = (refl, refl); answer = n.0; slots = n.1 }

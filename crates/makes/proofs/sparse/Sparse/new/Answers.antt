@@ -7,17 +7,17 @@ use Rattle.makes.specs.Sparse.{sparse_check}
 use Rattle.shelf.specs.Plan.{size_of, within}
 use Rattle.std.proofs.lemmas.List.{length-replicate}
 
-pub invariant-of-result : goal.invariant-of-result
-invariant-of-result c =
+pub invariant_of-result : goal.invariant_of-result
+invariant_of-result c =
     let few = sparse_few c.args.plan.now.sizes (length c.fill.new.self) (length c.args.words.now) c.check-checked.result c.check-checked.ensures in
     let cleared : c.fill.new.self ≡ replicate (length c.args.slots.now) idle
     = c.fill.ensures.after (λ y e. e) ∙ ap (replicate (length c.args.slots.now)) c.idle.ensures in (
-      subst (λ (x : List ℕ). within 4096 x ≡ true) (sym c.kept-plan.ensures) few,
+      subst (λ (x : List ℕ). within 4096 x ≡ true) (sym c.kept_plan.ensures) few,
       (
         subst Apart (sym cleared) (idle_apart (length c.args.slots.now)),
         (
           (λ d b h.
-              let room = sparse_room c.args.plan.now.sizes (length c.fill.new.self) (length c.args.words.now) c.check-checked.result d b c.check-checked.ensures (subst (λ (x : List ℕ). b < size_of x d) c.kept-plan.ensures h) in
+              let room = sparse_room c.args.plan.now.sizes (length c.fill.new.self) (length c.args.words.now) c.check-checked.result d b c.check-checked.ensures (subst (λ (x : List ℕ). b < size_of x d) c.kept_plan.ensures h) in
               subst (λ xs. 128 * length c.fill.new.self ≤ length xs) (sym c.new.ensures.same) room),
           (c.new.ensures.fit, tt),
         ),
@@ -32,7 +32,7 @@ returns c =
     let checked : c.check-checked.result ≡ sparse_check c.args.plan.now.sizes (length c.args.slots.now) (length c.args.words.now)
     = c.check-checked.ensures ∙ ap (λ (n : ℕ). sparse_check c.args.plan.now.sizes n (length c.args.words.now)) long in
     record {
-      made = sparse_makes c.args.plan.now.sizes (length c.args.slots.now) (length c.args.words.now) c.check-checked.result c.kept-plan.result.sizes c.fill.new.self c.new.result.words.now checked c.kept-plan.ensures cleared;
+      made = sparse_makes c.args.plan.now.sizes (length c.args.slots.now) (length c.args.words.now) c.check-checked.result c.kept_plan.result.sizes c.fill.new.self c.new.result.words.now checked c.kept_plan.ensures cleared;
       cleared = cleared;
       same = c.new.ensures.same;
       lent = (refl, c.new.ensures.lent);

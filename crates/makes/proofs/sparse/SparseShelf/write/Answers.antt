@@ -7,9 +7,9 @@ use Rattle.shelf.specs.declared.plan.ClosedPlan.{ClosedPlan}
 use Rattle.shelf.specs.declared.refusal.BlockFault.{BlockFault}
 use lib.Seq.{paste}
 
-pub returns-in-default : goal.returns-in-default
-returns-in-default c =
-    let p = c.in-default.ensures in
+pub returns-in_default : goal.returns-in_default
+returns-in_default c =
+    let p = c.in_default.ensures in
     let h : c.args.block < size_of c.args.self.now.plan.sizes c.args.drive = omega arith in
     let r = sparse_short c.args.self.now.plan.sizes c.args.self.now.slots.now c.claim.new.self.slots.now c.args.self.now.store.words.now c.claim.new.self.store.words.now c.args.words.now c.args.drive c.args.block
     p.answer p.slots h p.words in
@@ -30,8 +30,8 @@ put-requires c =
     let i = p.answer in
     (omega arith, c.claim.new.self.fit)
 
-pub invariant-of-self : goal.invariant-of-self
-invariant-of-self c =
+pub invariant_of-self : goal.invariant_of-self
+invariant_of-self c =
     let s = c.claim.new.self in
     (s.few, (s.apart, ((λ d b h. let r = s.room d b h in let l = c.put.ensures.len in omega arith), (c.put.ensures.fit, tt))))
 
