@@ -36,14 +36,3 @@ below_paste m xs ws p n e h fx fw k =
     (λ (l2 : p + n ≤ k). let q : get_or (paste xs p ws n) k 0 ≡ get_or xs k 0 = grind (arith, places) in omega (arith, fx k))
     (cases_lt k (p + n)))
     (cases_lt k p)
-
--- a part that lies within the row is whole, and its words are as low
-pub part_whole : (m : ℕ) (xs : List ℕ) (p n : ℕ) → p + n ≤ length xs → ((k : ℕ) → get_or xs k 0 < m) → (length (take n (drop p xs)) ≡ n) × ((k : ℕ) → get_or (take n (drop p xs)) k 0 < m)
-part_whole m xs p n h f =
-    let long : length (take n (drop p xs)) ≡ n = simp (length-take, length-drop) (omega arith) in (
-      long,
-      λ k. ⊎_elim
-          (λ (l : k < n). let q : get_or (take n (drop p xs)) k 0 ≡ get_or xs (p + k) 0 = grind (arith, places) in omega (arith, f (p + k)))
-          (λ (l : n ≤ k). let q : get_or (take n (drop p xs)) k 0 ≡ 0 = get_or_past _ k 0 (omega arith) in omega (arith, f 0))
-          (cases_lt k n),
-    )

@@ -1,3 +1,6 @@
 pub mod Dense
+pub mod DenseLaws
+pub mod Parts
 pub mod Slot
 pub mod Sparse
+pub mod SparseLaws

@@ -29,11 +29,23 @@ pub fn check(plan: &ClosedPlan, words: usize) -> Result<(), ShelfRefusal>
 }
 
 impl<'a> Shelf for Dense<'a> {
+    ghost use Rattle.makes.specs.DenseLaws.{has_nothing, has_words, is_bounded, is_offered, only_eight};
+
     const LONGEST: u32 = 65536;
 
     ghost meaning = { λ s. dense s.plan.sizes s.store.words.now };
 
     ghost most = { 65536 };
+
+    ghost offered = { is_offered };
+
+    ghost bounded = { is_bounded };
+
+    ghost drives = { only_eight };
+
+    ghost blocks = { has_words };
+
+    ghost nowhere = { has_nothing };
 
     fn limit() -> u32
         ensures { result ≡ 65536 }

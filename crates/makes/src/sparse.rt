@@ -36,11 +36,23 @@ pub fn check(plan: &ClosedPlan, slots: usize, words: usize) -> Result<(), ShelfR
 }
 
 impl<'a> Shelf for Sparse<'a> {
+    ghost use Rattle.makes.specs.SparseLaws.{has_nothing, has_words, is_bounded, is_offered, only_eight};
+
     const LONGEST: u32 = 4096;
 
     ghost meaning = { λ s. sparse s.plan.sizes s.slots.now s.store.words.now };
 
     ghost most = { 4096 };
+
+    ghost offered = { is_offered };
+
+    ghost bounded = { is_bounded };
+
+    ghost drives = { only_eight };
+
+    ghost blocks = { has_words };
+
+    ghost nowhere = { has_nothing };
 
     fn limit() -> u32
         ensures { result ≡ 4096 }

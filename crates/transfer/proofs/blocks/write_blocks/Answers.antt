@@ -8,8 +8,8 @@ pub loop-i-init : goal.loop-i-init
 loop-i-init g c =
     (omega arith, starts (answers_write c.args.extent) (left_write c.args.extent c.args.memory.now c.args.span) c.args.extent (g.S.Shelf.meaning c.args.shelf.now))
 
-pub gather_block-requires : goal.gather_block-requires
-gather_block-requires g c = (
+pub gather-block-requires : goal.gather-block-requires
+gather-block-requires g c = (
   omega arith,
   within c.args.span (length c.args.memory.now) (length c.args.memory.now) (128 * c.args.extent.count) _ (sym c.if-not-reaches.ensures) refl (omega arith),
 )
@@ -23,7 +23,7 @@ loop-i-preserved g c =
     let n = near m d b g.S.Shelf.most h (g.met.S.Shelf.bounded c.loop-i.shelf d) g.met.S.Shelf.offered in (
       omega arith,
       goes_on (answers_write c.args.extent) (left_write c.args.extent c.args.memory.now c.args.span) c.args.extent (g.S.Shelf.meaning c.args.shelf.now) m (g.S.Shelf.meaning c.write.new.self) c.loop-i.i c.write.result c.in_ok-write.field-0 c.loop-i-test.true c.write.ensures.answer c.in_ok-write.was
-          (gathers c.args.extent c.args.memory.now c.args.span m (g.S.Shelf.meaning c.write.new.self) c.gather_block.result b (128 * c.loop-i.i) c.gather_block.ensures.value c.write.ensures.after)
+          (gathers c.args.extent c.args.memory.now c.args.span m (g.S.Shelf.meaning c.write.new.self) c.gather-block.result b (128 * c.loop-i.i) c.gather-block.ensures.value c.write.ensures.after)
           c.loop-i.invariant.1,
     )
 
@@ -31,7 +31,7 @@ pub returns-in_err-write : goal.returns-in_err-write
 returns-in_err-write g c =
     let m = g.S.Shelf.meaning c.loop-i.shelf in
     let s = stops (answers_write c.args.extent) (left_write c.args.extent c.args.memory.now c.args.span) c.args.extent (length c.args.memory.now) c.args.span (g.S.Shelf.meaning c.args.shelf.now) m (g.S.Shelf.meaning c.write.new.self) c.loop-i.i c.write.result c.in_err-write.field-0.0 c.if-not-reaches.ensures c.loop-i-test.true c.write.ensures.answer c.in_err-write.was
-    (refused_keeps m (g.S.Shelf.meaning c.write.new.self) c.args.extent.drive (c.args.extent.first + c.loop-i.i) c.gather_block.result c.write.result c.in_err-write.field-0.0 c.write.ensures.answer c.in_err-write.was c.write.ensures.after)
+    (refused_keeps m (g.S.Shelf.meaning c.write.new.self) c.args.extent.drive (c.args.extent.first + c.loop-i.i) c.gather-block.result c.write.result c.in_err-write.field-0.0 c.write.ensures.answer c.in_err-write.was c.write.ensures.after)
     c.loop-i.invariant.1 in
     record { answer = goes_out c.from_residual.result _ c.in_err-write.field-0.0 c.from_residual.ensures.1 s.0; after = s.1 }
 

@@ -6,7 +6,10 @@ use Rattle.makes.specs.Dense.{dense}
 pub invariant_of-result : goal.invariant_of-result
 invariant_of-result c =
     let room = dense_room c.args.plan.now.sizes (length c.args.words.now) c.check-checked.result c.kept_plan.result.sizes c.check-checked.ensures c.kept_plan.ensures in
-    (subst (λ xs. 128 * sum c.kept_plan.result.sizes ≤ length xs) (sym c.new.ensures.same) room, (c.new.ensures.fit, tt))
+    record {
+      enough = subst (λ xs. 128 * sum c.kept_plan.result.sizes ≤ length xs) (sym c.new.ensures.same) room;
+      fit = c.new.ensures.fit;
+    }
 
 pub returns : goal.returns
 returns c =

@@ -8,16 +8,13 @@ use Rattle.std.proofs.Common.{refl, arith}
 pub invariant_of-self : goal.invariant_of-self
 invariant_of-self c =
     let p = c.in-Some-idle_slot.ensures in
-    let l = length-set c.args.self.now.slots.now c.in-Some-idle_slot.i (taken c.args.drive c.args.block) in (
-      c.args.self.now.few,
-      (
-        kept_apart c.args.self.now.slots.now c.args.drive c.args.block c.in-Some-idle_slot.i c.args.self.now.apart c.in_default.ensures p.0 (omega arith),
-        (
-          (λ d b h. let r = c.args.self.now.room d b h in omega arith),
-          (c.args.self.now.fit, tt),
-        ),
-      ),
-    )
+    let l = length-set c.args.self.now.slots.now c.in-Some-idle_slot.i (taken c.args.drive c.args.block) in
+    record {
+      few = c.args.self.now.few;
+      apart = kept_apart c.args.self.now.slots.now c.args.drive c.args.block c.in-Some-idle_slot.i c.args.self.now.apart c.in_default.ensures p.0 (omega arith);
+      room = λ d b h. let r = c.args.self.now.room d b h in omega arith;
+      fit = c.args.self.now.fit;
+    }
 
 pub returns-in_default-idle_slot : goal.returns-in_default-idle_slot
 returns-in_default-idle_slot c =

@@ -11,18 +11,15 @@ pub invariant_of-result : goal.invariant_of-result
 invariant_of-result c =
     let few = sparse_few c.args.plan.now.sizes (length c.fill.new.self) (length c.args.words.now) c.check-checked.result c.check-checked.ensures in
     let cleared : c.fill.new.self ≡ replicate (length c.args.slots.now) idle
-    = c.fill.ensures.after (λ y e. e) ∙ ap (replicate (length c.args.slots.now)) c.idle.ensures in (
-      subst (λ (x : List ℕ). within 4096 x ≡ true) (sym c.kept_plan.ensures) few,
-      (
-        subst Apart (sym cleared) (idle_apart (length c.args.slots.now)),
-        (
-          (λ d b h.
-              let room = sparse_room c.args.plan.now.sizes (length c.fill.new.self) (length c.args.words.now) c.check-checked.result d b c.check-checked.ensures (subst (λ (x : List ℕ). b < size_of x d) c.kept_plan.ensures h) in
-              subst (λ xs. 128 * length c.fill.new.self ≤ length xs) (sym c.new.ensures.same) room),
-          (c.new.ensures.fit, tt),
-        ),
-      ),
-    )
+    = c.fill.ensures.after (λ y e. e) ∙ ap (replicate (length c.args.slots.now)) c.idle.ensures in
+    record {
+      few = subst (λ (x : List ℕ). within 4096 x ≡ true) (sym c.kept_plan.ensures) few;
+      apart = subst Apart (sym cleared) (idle_apart (length c.args.slots.now));
+      room = λ d b h.
+          let r = sparse_room c.args.plan.now.sizes (length c.fill.new.self) (length c.args.words.now) c.check-checked.result d b c.check-checked.ensures (subst (λ (x : List ℕ). b < size_of x d) c.kept_plan.ensures h) in
+          subst (λ xs. 128 * length c.fill.new.self ≤ length xs) (sym c.new.ensures.same) r;
+      fit = c.new.ensures.fit;
+    }
 
 pub returns : goal.returns
 returns c =

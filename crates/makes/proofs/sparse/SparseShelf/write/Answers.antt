@@ -33,7 +33,12 @@ put-requires c =
 pub invariant_of-self : goal.invariant_of-self
 invariant_of-self c =
     let s = c.claim.new.self in
-    (s.few, (s.apart, ((λ d b h. let r = s.room d b h in let l = c.put.ensures.len in omega arith), (c.put.ensures.fit, tt))))
+    record {
+      few = s.few;
+      apart = s.apart;
+      room = λ d b h. let r = s.room d b h in let l = c.put.ensures.len in omega arith;
+      fit = c.put.ensures.fit;
+    }
 
 pub returns : goal.returns
 returns c =

@@ -6,8 +6,8 @@ use Rattle.std.proofs.lemmas.Slice.{put_mid-paste}
 
 pub returns : goal.returns
 returns c =
-    let e = put_mid-paste (128 * c.args.i) (128 * c.args.i + 128 - 128 * c.args.i) c.args.self.now.words.now c.copy-from-slice.new.self c.args.from.now 128
-    c.copy-from-slice.ensures.after (omega arith) (omega arith) in
+    let e = put_mid-paste (128 * c.args.i) (128 * c.args.i + 128 - 128 * c.args.i) c.args.self.now.words.now c.copy_from_slice.new.self c.args.from.now 128
+    c.copy_from_slice.ensures.after (omega arith) (omega arith) in
     record {
       lent = refl;
       len = ap length e ∙ length-paste c.args.self.now.words.now (128 * c.args.i) c.args.from.now 128 (omega arith) (omega arith);
