@@ -9,6 +9,7 @@ mod show;
 use command::Command;
 use failure::Failure;
 use std::env;
+use std::process::ExitCode;
 
 const USAGE: &str = "usage:
   een421 card new FILE        write a fresh machine's card to FILE, and check it
@@ -24,10 +25,6 @@ options of disc:
   --read D:B                  read block B of drive D
   --copy D:B+N=E:C            copy N blocks of drive D, from B on, to drive E, from C on";
 
-// That a command was not done: `main` has said why.
-#[derive(Drop)]
-struct Failed;
-
 fn run(rt: &HostRuntime) -> Result<(), Failure> {
     let args: Vec<String> = env::args(rt)?.skip(1).collect(rt.alloc())?;
     match command::parse(args.as_slice()) {
@@ -41,16 +38,16 @@ fn run(rt: &HostRuntime) -> Result<(), Failure> {
     }
 }
 
-fn main(rt: HostRuntime) -> Result<(), Failed> {
+fn main(rt: HostRuntime) -> ExitCode {
     match run(&rt) {
-        Ok(()) => Ok(()),
+        Ok(()) => ExitCode::SUCCESS,
         Err(Failure::Usage) => {
             let _ = rt.eprintln(USAGE);
-            Err(Failed)
+            ExitCode::FAILURE
         }
         Err(failure) => {
             let _ = eprintln!(rt; "een421: {failure}");
-            Err(Failed)
+            ExitCode::FAILURE
         }
     }
 }
