@@ -1,4 +1,6 @@
 // The program: commands over machine cards and shelves of discs.
+#![tactic(auto)]
+
 mod cards;
 mod command;
 mod disc;

@@ -1,5 +1,5 @@
 -- What a dense shelf means after it is made and after a write.
-use Rattle.std.proofs.Common.{◌≡◌, ℕ, ◌+◌, ◌*◌, ◌<◌, ◌≤◌, true, false, cond, ◌||◌, ltb, ◌⊎◌, List, [], length, take, Ok, Err, sum, Result, sym, refl, ap, ◌∙◌, subst, subst₂, inl, inr, ⊎_elim, arith}
+use Rattle.std.proofs.Common.{◌≡◌, ℕ, ◌+◌, ◌*◌, ◌<◌, ◌≤◌, true, false, cond, ◌||◌, ltb, ◌⊎◌, List, [], length, Ok, Err, sum, Result, sym, refl, ap, ◌∙◌, subst, subst₂, inl, inr, ⊎_elim, arith}
 use Rattle.makes.proofs.Parts.{part_after, part_before, part_same}
 use Rattle.makes.specs.Dense.{dense, dense_block, dense_check, dense_made, dense_words}
 use Rattle.shelf.proofs.Meanings.{meaning_ext, same_cases, write_made}

@@ -1,6 +1,6 @@
 -- What a write of n words into a row leaves of its parts.
 use Rattle.std.proofs.Common.{◌≡◌, ℕ, ◌+◌, ◌-◌, ◌<◌, ◌≤◌, List, length, get_or, take, drop, ⊎_elim, arith}
-use Rattle.std.proofs.lemmas.List.{get_or_past, length-append, length-drop, length-take, places, same_lists}
+use Rattle.std.proofs.lemmas.List.{length-append, length-drop, length-take, places, same_lists}
 use Rattle.std.proofs.lemmas.Bool.{cases_lt}
 use lib.Seq.{paste}
 

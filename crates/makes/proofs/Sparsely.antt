@@ -1,5 +1,5 @@
 -- What a sparse shelf means after it is made and after a write, and what it reads.
-use Rattle.std.proofs.Common.{◌≡◌, ℕ, ◌+◌, ◌-◌, ◌*◌, ◌<◌, ◌≤◌, true, false, cond, ◌&&◌, ◌||◌, ltb, List, [], length, take, drop, set, replicate, Ok, Err, Result, sym, refl, ap, ◌∙◌, subst, subst₂, ⊎_elim, arith}
+use Rattle.std.proofs.Common.{◌≡◌, ℕ, ◌+◌, ◌*◌, ◌<◌, ◌≤◌, true, false, cond, ◌&&◌, ◌||◌, ltb, List, [], length, take, drop, replicate, Ok, Err, Result, sym, refl, ap, ◌∙◌, subst, subst₂, ⊎_elim, arith}
 use Rattle.makes.proofs.Parts.{part_after, part_before, part_same}
 use Rattle.makes.proofs.Slots.{Kept, apart, idle_count, idle_find, kept_held, kept_new, none_idle, some_idle}
 use Rattle.makes.specs.Slot.{find, first_idle, idle, taken, count_idle}

@@ -1,4 +1,4 @@
-use Rattle.std.proofs.Common.{◌*◌, ◌≤◌, List, length, sum, sym, ap, ◌∙◌, subst}
+use Rattle.std.proofs.Common.{◌*◌, ◌≤◌, length, sum, sym, ap, ◌∙◌, subst}
 use Rattle.makes.proofs.Densely.{dense_makes, dense_room}
 use Rattle.makes.proofs.dense.Dense.new.Goals as goal
 use Rattle.makes.specs.Dense.{dense}
