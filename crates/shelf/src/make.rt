@@ -12,7 +12,7 @@ pub trait Shelf {
 
     // What a shelf means.
     ghost meaning: { Self → Meaning };
-    // The same number as LONGEST: laws cannot name a constant.
+    // The same number as LONGEST, for clauses and laws.
     ghost most: { ℕ };
 
     // The make's LONGEST.
