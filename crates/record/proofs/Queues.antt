@@ -1,6 +1,6 @@
 -- A queue as the list that it holds, and the zeros behind.
-use Rattle.std.proofs.Common.{◌≡◌, ℕ, ◌+◌, ◌-◌, ◌<◌, ◌≤◌, min, List, length, take, drop, set, replicate, Ok, sym, refl, ap, ◌∙◌, ⊎_elim, arith}
-use Rattle.std.proofs.lemmas.List.{drop_all, drop-drop, drop-replicate, drop-set-lt, drop-take, length-take, length-take-le, take_all, take_more_set, take-take}
+use Rattle.std.proofs.Common.{◌≡◌, ℕ, ◌+◌, ◌-◌, ◌<◌, ◌≤◌, min, List, ◌++◌, length, take, drop, set, replicate, Ok, sym, refl, ap, ◌∙◌, ⊎_elim, arith}
+use Rattle.std.proofs.lemmas.List.{drop_all, drop-drop, drop-replicate, drop-set-lt, drop-take, drop_at, length-append, length-replicate, length-take, length-take-le, take_at, take_all, take_more_set, take-take}
 use Rattle.std.proofs.lemmas.Bool.{cases_lt, cond-true, lt-ltb}
 use Rattle.record.specs.Queue.{items, push_answer, after_push}
 use Rattle.record.specs.declared.queue.Queue.{Queue}
@@ -69,3 +69,16 @@ rest_is q n k e =
         let m : k ≡ n = omega arith in
         let s : n + (q.len - n) ≡ q.len = omega arith in
         rw m (sym (drop-take n (q.len - n) q.bytes) ∙ ap (λ j. drop n (take j q.bytes)) s)
+
+-- zeros with the first 64 bytes of a list put to their front
+pub filled_front : (from bytes : List ℕ) (n : ℕ) → n ≡ min (length from) 64 → bytes ≡ take n from ++ drop (length (take n from)) (replicate 64 0)
+    → (length bytes ≡ 64) × (n ≤ 64) × (drop n bytes ≡ replicate (64 - n) 0) × (take n bytes ≡ take 64 from)
+filled_front from bytes n e eb =
+    let long : length (take n from) ≡ n = length-take-le n from (omega arith) in
+    let behind : drop (length (take n from)) (replicate {A = ℕ} 64 0) ≡ replicate (64 - n) 0 = drop-replicate (length (take n from)) 64 0 ∙ ap (λ k. replicate (64 - k) 0) long in
+    let is : bytes ≡ take n from ++ replicate (64 - n) 0 = eb ∙ ap (λ l. take n from ++ l) behind in (
+      ap length is ∙ simp (length-append, length-take, length-replicate) (omega arith),
+      omega arith,
+      ap (drop n) is ∙ drop_at (take n from) (replicate (64 - n) 0) n long,
+      ap (take n) is ∙ (take_at (take n from) (replicate (64 - n) 0) n long ∙ first_64 from n e),
+    )

@@ -1,10 +1,10 @@
 -- The published form of a machine record.
-use Rattle.std.proofs.Common.{◌≡◌, ℕ, ◌%◌, ◌≤◌, Bool, true, false, not, List, [], ◌∷◌, ◌++◌, length, get_or, take, set, sym, refl, ap, ◌∙◌, subst, ap₂, arith}
+use Rattle.std.proofs.Common.{◌≡◌, ℕ, ◌%◌, Bool, true, false, not, List, [], ◌∷◌, length, get_or, take, set, sym, refl, ap, ◌∙◌, subst, ap₂, arith}
+use mathlib.Core.Bool.{not-not}
 use Rattle.std.proofs.lemmas.List.{get_or-set_same, get_or-set_other, length-set, take_all, take-set-le}
 use Rattle.std.proofs.lemmas.Bool.{cond-false, cond-true}
-use Rattle.record.specs.Contents.{Contents, register, system_pair, switched, user_pair, with_flags, with_system, flagged}
+use Rattle.record.specs.Contents.{Contents, switched, with_flags, with_system, flagged}
 use Rattle.record.specs.Flags.{flags_from, conditions_of, mode_of}
-use Rattle.record.specs.Pdbr.{pdbr_word}
 use Rattle.record.specs.View.{arranged, contents_of, control_of, pair_of, registers_of, view, view_with_flags, words}
 use Rattle.record.specs.declared.state.Conditions.{Conditions}
 use Rattle.record.specs.declared.state.Control.{Control}
@@ -12,25 +12,6 @@ use Rattle.record.specs.declared.state.Mode.{Mode}
 use Rattle.record.specs.declared.state.StackPair.{StackPair}
 use Rattle.record.proofs.Flags.{flags_back, flags_there}
 use Rattle.record.proofs.Lists.{listing, listed}
-
--- the eleven words behind R0 to R12
-abbrev rest_of : Contents → StackPair → StackPair → ℕ → List ℕ
-rest_of c s u p =
-    register c 15 ∷ s.sp ∷ s.fp ∷ u.sp ∷ u.fp ∷ p ∷ c.control.intvec ∷ c.control.cgbr ∷ c.control.cglen ∷ c.control.debug ∷ c.control.timer ∷ []
-
--- the words, register by register
-pub words_are : (c : Contents) (s u : StackPair) (p : ℕ) → 13 ≤ length c.core.regs → s ≡ system_pair c → u ≡ user_pair c → p ≡ pdbr_word c.control.pdbr
-    → listing 13 0 c.core.regs ++ rest_of c s u p ≡ words c
-words_are c s u p h es eu ep =
-    rw (es, eu, ep) (ap (λ l. l ++ rest_of c (system_pair c) (user_pair c) (pdbr_word c.control.pdbr)) (sym (listed 13 0 c.core.regs h)))
-
--- the registers, one by one
-pub registers_are : (ws : List ℕ) (pair : StackPair) → 13 ≤ length ws → listing 13 0 ws ++ (pair.sp ∷ pair.fp ∷ get_or ws 13 0 ∷ []) ≡ registers_of ws pair
-registers_are ws pair h = ap (λ l. l ++ (pair.sp ∷ pair.fp ∷ get_or ws 13 0 ∷ [])) (sym (listed 13 0 ws h))
-
-twice : (b : Bool) → not (not b) ≡ b
-twice true = refl
-twice false = refl
 
 -- registers 13 and 14 written, as a change of mode does
 traded : (regs : List ℕ) (a b : ℕ) → length regs ≡ 16
@@ -63,7 +44,7 @@ system_set c on h = go c.mode.system refl on
 
     turns : (d : Contents) (o : Bool) → d ≡ switched c → c.mode.system ≡ not o → (words d ≡ words c) × (d.mode.system ≡ o) × (d.keys ≡ c.keys) × (d.tray ≡ c.tray)
     turns d o e es =
-        (ap words e ∙ switched_words c h, ap (λ x. x.mode.system) e ∙ (ap not es ∙ twice o), ap (λ x. x.keys) e, ap (λ x. x.tray) e)
+        (ap words e ∙ switched_words c h, ap (λ x. x.mode.system) e ∙ (ap not es ∙ not-not o), ap (λ x. x.keys) e, ap (λ x. x.tray) e)
 
     go : (s : Bool) → c.mode.system ≡ s → (o : Bool)
         → (words (with_system c o) ≡ words c) × ((with_system c o).mode.system ≡ o) × ((with_system c o).keys ≡ c.keys) × ((with_system c o).tray ≡ c.tray)

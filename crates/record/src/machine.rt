@@ -11,7 +11,7 @@ pub const WORDS: usize = 24;
 
 // The machine record. The stack pair of the mode that runs is in registers 13 and 14; `parked`
 // has the pair of the other mode.
-#[derive(Clone, Copy)]
+#[derive(Clone, Copy, Debug, PartialEq, Eq)]
 pub struct Record {
     pub core: Core,
     pub mode: Mode,

@@ -1,8 +1,9 @@
 ghost use Rattle.record.specs.Pdbr.{pdbr_word};
 ghost use Rattle.std.specs.Prelude.{◌≡◌};
 
-// The page directory base register. Its word goes in by `new` and comes out by `word` alone.
-#[derive(Clone, Copy)]
+// The page directory base register. Its word goes in by `new` and comes out by `word`: a `From` each
+// way would say no more, and would hide where a word becomes a register.
+#[derive(Clone, Copy, Debug, PartialEq, Eq, Default)]
 pub struct Pdbr {
     base: u32,
 }

@@ -4,7 +4,9 @@ pub mod methods;
 
 // At most 64 bytes, oldest first. The bytes behind the length are zero, so that two queues that
 // hold the same bytes are the same value.
-#[derive(Clone, Copy)]
+// An array with a length beside it, since a record takes no memory of its own and is `Copy`, which
+// neither a `Vec` nor an `ArrayVec` is; the fields' facts are what laws over all records rest on.
+#[derive(Clone, Copy, Debug, PartialEq, Eq)]
 pub struct Queue {
     bytes: [u8; 64],
     len: usize,
@@ -14,5 +16,5 @@ pub struct Queue {
 }
 
 // Why a queue takes no more: it holds 64 bytes.
-#[derive(Clone, Copy)]
+#[derive(Clone, Copy, Debug, PartialEq, Eq)]
 pub struct Full;

@@ -4,7 +4,7 @@ ghost use Rattle.std.specs.Prelude.{◌≡◌};
 use crate::pdbr::Pdbr;
 
 // The flags that instructions of a user program may change: Z, N and ERR.
-#[derive(Clone, Copy)]
+#[derive(Clone, Copy, Debug, PartialEq, Eq, Default)]
 pub struct Conditions {
     pub z: bool,
     pub n: bool,
@@ -13,14 +13,14 @@ pub struct Conditions {
 
 // What an unprivileged instruction may change: the sixteen registers of the mode that runs, of
 // which 13, 14 and 15 are SP, FP and PC, and the condition flags.
-#[derive(Clone, Copy)]
+#[derive(Clone, Copy, Debug, PartialEq, Eq)]
 pub struct Core {
     pub regs: [u32; 16],
     pub conditions: Conditions,
 }
 
 // The flags that only system mode may change: R, SYS, IP and VM.
-#[derive(Clone, Copy)]
+#[derive(Clone, Copy, Debug, PartialEq, Eq)]
 pub struct Mode {
     pub running: bool,
     pub system: bool,
@@ -29,14 +29,14 @@ pub struct Mode {
 }
 
 // A stack pointer and a frame pointer.
-#[derive(Clone, Copy)]
+#[derive(Clone, Copy, Debug, PartialEq, Eq, Default)]
 pub struct StackPair {
     pub sp: u32,
     pub fp: u32,
 }
 
 // The registers by which the kernel steers the machine.
-#[derive(Clone, Copy)]
+#[derive(Clone, Copy, Debug, PartialEq, Eq, Default)]
 pub struct Control {
     pub pdbr: Pdbr,
     pub intvec: u32,
@@ -46,11 +46,11 @@ pub struct Control {
     pub timer: u32,
 }
 
-impl Conditions {
-    // Z, N and ERR of a flags word: bits 1, 2 and 3.
-    pub fn from_flags(word: u32) -> Conditions
-        ensures { result ≡ conditions_of word }
-    {
+// Z, N and ERR of a flags word: bits 1, 2 and 3.
+impl From<u32> for Conditions {
+    ghost from_gives = { λ word it. it ≡ conditions_of word };
+
+    fn from(word: u32) -> Conditions {
         Conditions {
             z: word / 2 % 2 == 1,
             n: word / 4 % 2 == 1,
@@ -59,11 +59,11 @@ impl Conditions {
     }
 }
 
-impl Mode {
-    // R, SYS, IP and VM of a flags word: bits 0, 4, 5 and 6.
-    pub fn from_flags(word: u32) -> Mode
-        ensures { result ≡ mode_of word }
-    {
+// R, SYS, IP and VM of a flags word: bits 0, 4, 5 and 6.
+impl From<u32> for Mode {
+    ghost from_gives = { λ word it. it ≡ mode_of word };
+
+    fn from(word: u32) -> Mode {
         Mode {
             running: word % 2 == 1,
             system: word / 16 % 2 == 1,

@@ -12,16 +12,10 @@ use crate::state::{Conditions, Control, Core, Mode, StackPair};
 fn pair_of(words: &[u32; WORDS], system: bool) -> StackPair
     ensures { result ≡ pair_of words.now system }
 {
-    if system {
-        StackPair {
-            sp: words[14],
-            fp: words[15],
-        }
-    } else {
-        StackPair {
-            sp: words[16],
-            fp: words[17],
-        }
+    let at = if system { 14 } else { 16 };
+    StackPair {
+        sp: words[at],
+        fp: words[at + 1],
     }
 }
 
@@ -39,7 +33,8 @@ fn control_of(words: &[u32; WORDS]) -> Control
     }
 }
 
-// The registers of the mode that runs, with that pair: R0 to R12, SP, FP, PC.
+// The registers of the mode that runs, with that pair: R0 to R12, SP, FP, PC. One by one, as in
+// `words`: of parts copied into an array the proof did not close.
 fn registers_of(w: &[u32; WORDS], pair: StackPair) -> [u32; 16]
     ensures { result ≡ registers_of w.now pair }
 {
@@ -56,8 +51,8 @@ impl Record {
         ensures after { contents result ≡ contents_of (record { words = words.entry.now; flags = flags; keys = items keys; tray = items tray }) }
         ensures view { view (contents result) ≡ record { words = words.entry.now; flags = flags % 128; keys = items keys; tray = items tray } }
     {
-        let mode = Mode::from_flags(flags);
-        let conditions = Conditions::from_flags(flags);
+        let mode = Mode::from(flags);
+        let conditions = Conditions::from(flags);
         let running = pair_of(words, mode.system);
         let parked = pair_of(words, !mode.system);
         let core = Core {
@@ -82,11 +77,7 @@ impl Record {
         Record {
             core: Core {
                 regs: [0; 16],
-                conditions: Conditions {
-                    z: false,
-                    n: false,
-                    err: false,
-                },
+                conditions: Conditions::default(),
             },
             mode: Mode {
                 running: true,
@@ -94,15 +85,8 @@ impl Record {
                 in_interrupt: true,
                 paging: false,
             },
-            parked: StackPair { sp: 0, fp: 0 },
-            control: Control {
-                pdbr: Pdbr::new(0),
-                intvec: 0,
-                cgbr: 0,
-                cglen: 0,
-                debug: 0,
-                timer: 0,
-            },
+            parked: StackPair::default(),
+            control: Control::default(),
             keys: Queue::new(),
             tray: Queue::new(),
         }
@@ -198,10 +182,7 @@ impl Record {
     fn switch_mode(&mut self)
         ensures { contents self.new ≡ switched (contents self.old) }
     {
-        let running = StackPair {
-            sp: self.core.regs[13],
-            fp: self.core.regs[14],
-        };
+        let running = self.running_pair();
         self.core.regs[13] = self.parked.sp;
         self.core.regs[14] = self.parked.fp;
         self.parked = running;
@@ -223,27 +204,21 @@ impl Record {
         ensures after { contents self.new ≡ with_flags (contents self.old) word }
         ensures view { view (contents self.new) ≡ view_with_flags (view (contents self.old)) word }
     {
-        let mode = Mode::from_flags(word);
+        let mode = Mode::from(word);
         self.set_system(mode.system);
         self.mode = mode;
-        self.core.conditions = Conditions::from_flags(word);
+        self.core.conditions = Conditions::from(word);
     }
 
-    // Whether two records are the same, by their words, flags, keys and tray.
+    // Whether two records are the same.
     pub fn same(&self, other: &Record) -> bool
         ensures { Decides result (self.now ≡ other.now) }
     {
-        let words = self.words() == other.words();
-        let flags = self.flags() == other.flags();
-        let keys = self.keys.same(&other.keys);
-        let tray = self.tray.same(&other.tray);
-        words & flags & keys & tray
+        self == other
     }
 
     // The law that words, flags, keys and tray tell a record: see `ViewsTell`.
-    pub fn views_tell() -> u8
+    pub fn views_tell()
         ensures { ViewsTell }
-    {
-        0
-    }
+    {}
 }

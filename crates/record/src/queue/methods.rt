@@ -1,7 +1,16 @@
-ghost use Rattle.std.specs.Prelude.{◌≡◌, ◌≤◌, [], length, take, drop, Decides};
+ghost use Rattle.std.specs.Prelude.{◌≡◌, ◌≤◌, [], ◌++◌, length, take, drop, Decides};
 ghost use Rattle.record.specs.Queue.{after_push, items, push_answer};
 
 use super::{Full, Queue};
+
+// Puts bytes to the front of a buffer. A function of its own, since of a part of a local array the
+// proof does not close.
+fn put_front(to: &mut [u8], from: &[u8])
+    requires { length from.now ≤ length to.old }
+    ensures { to.new ≡ from.now ++ drop (length from.now) to.old }
+{
+    to[..from.len()].copy_from_slice(from);
+}
 
 impl Queue {
     // A queue that holds nothing.
@@ -18,12 +27,10 @@ impl Queue {
     pub fn from_slice(from: &[u8]) -> Queue
         ensures { items result ≡ take 64 from.now }
     {
-        let n = from.len().min(64);
+        let len = from.len().min(64);
         let mut bytes = [0; 64];
-        for i in 0..n {
-            bytes[i] = from[i];
-        }
-        Queue { bytes, len: n }
+        put_front(&mut bytes, &from[..len]);
+        Queue { bytes, len }
     }
 
     // How many bytes it holds.
@@ -70,6 +77,6 @@ impl Queue {
     pub fn same(&self, other: &Queue) -> bool
         ensures { Decides result (self.now ≡ other.now) }
     {
-        self.as_slice() == other.as_slice()
+        self == other
     }
 }

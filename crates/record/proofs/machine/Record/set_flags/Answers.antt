@@ -7,5 +7,5 @@ use Rattle.record.proofs.machine.Record.set_flags.Goals as goal
 pub returns : goal.returns
 returns c =
     let old = contents c.args.self.now in
-    let e = flags_after old (contents c.set_system.new.self) c.args.word _ _ c.from_flags-self.ensures c.from_flags-mode.ensures c.set_system.ensures.after in
+    let e = flags_after old (contents c.set_system.new.self) c.args.word _ _ c.from-self.ensures c.from-mode.ensures c.set_system.ensures.after in
     record { after = e; view = ap view e ∙ flags_set old c.args.word c.args.self.now.sized }
