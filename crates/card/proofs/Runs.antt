@@ -1,7 +1,8 @@
 -- The bit writer, a bit, a field and several fields at a time.
-use Rattle.std.proofs.Common.{◌≡◌, ℕ, zero, suc, ◌+◌, ◌-◌, ◌/◌, ◌%◌, ◌^◌, ◌<◌, ◌≤◌, true, eqb, ltb, List, [], ◌∷◌, ◌++◌, length, get_or, drop, refl, ap, ◌∙◌, arith, length-set}
+use Rattle.std.proofs.Common.{◌≡◌, ℕ, zero, suc, ◌+◌, ◌-◌, ◌*◌, ◌/◌, ◌%◌, ◌^◌, ◌<◌, ◌≤◌, true, eqb, ltb, List, [], ◌∷◌, ◌++◌, length, get_or, drop, refl, ap, ◌∙◌, arith, length-set, mul-add, pow_pos, ⊎_elim}
 use Rattle.std.proofs.lemmas.Nat.{div_below, le-div}
-use Rattle.std.proofs.lemmas.List.{drop_more, drop_all}
+use Rattle.std.proofs.lemmas.List.{drop_more, drop_all, get_or_past}
+use Rattle.std.proofs.lemmas.Bool.{cases_lt}
 use Rattle.std.proofs.lemmas.Bool.Decides.{nat_tests}
 use Rattle.card.specs.Bits.{bits, fields}
 use Rattle.card.specs.Writer.{State, step, run, room, Moved}
@@ -38,7 +39,7 @@ moved_none s h = record { few = h; total = omega arith; long = refl }
 moved_one : (s : State) (b : ℕ) → s.count < 8 → Moved s (step s b) 1
 moved_one s b h = record { few = grind (arith, nat_tests); total = grind (arith, nat_tests); long = grind (arith, nat_tests, length-set) }
 
-moved_both : (s t u : State) (m n k : ℕ) → Moved s t m → Moved t u n → m + n ≡ k → Moved s u k
+pub moved_both : (s t u : State) (m n k : ℕ) → Moved s t m → Moved t u n → m + n ≡ k → Moved s u k
 moved_both s t u m n k p q e = record { few = q.few; total = omega arith; long = q.long ∙ p.long }
 
 pub run_moved : (s : State) (xs : List ℕ) → s.count < 8 → Moved s (run s xs) (length xs)
@@ -50,6 +51,18 @@ run_moved s (x ∷ xs) h =
 
 pub put_moved : (s t : State) (w v : ℕ) → s.count < 8 → t ≡ run s (bits w v) → Moved s t w
 put_moved s t w v h e = rw e (let m = run_moved s (bits w v) h in rw bits_long at m)
+
+-- one number more that is below a bound
+pub fits_more : (xs : List ℕ) (i x m : ℕ) → ((k : ℕ) → k < i → get_or xs k 0 < m) → x ≡ get_or xs i 0 → x < m → (k : ℕ) → k < i + 1 → get_or xs k 0 < m
+fits_more xs i x m f e h k lt = ⊎_elim (λ (l : k < i). f k l) (λ (g : i ≤ k). let is : k ≡ i = omega arith in rw is (rw e at h)) (cases_lt k i)
+
+-- all are, and so is the number that stands for those past the end
+pub fits_all : (xs : List ℕ) (w i : ℕ) → ((k : ℕ) → k < i → get_or xs k 0 < 2 ^ w) → length xs ≤ i → (k : ℕ) → get_or xs k 0 < 2 ^ w
+fits_all xs w i f h k = ⊎_elim (λ (l : k < i). f k l) (λ (g : i ≤ k). let z = get_or_past xs k 0 (omega arith) in omega (arith, pow_pos w)) (cases_lt k i)
+
+-- a field more of that width
+pub mul_more : (w i n : ℕ) → n ≡ w → w * i + n ≡ w * (i + 1)
+mul_more w i n e = omega (arith, mul-add w i 1, e)
 
 pub fields_none : (s : State) (w : ℕ) (vs : List ℕ) (i : ℕ) → length vs ≤ i → run s (fields w (drop i vs)) ≡ s
 unfolding run fields

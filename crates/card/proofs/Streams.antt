@@ -1,10 +1,9 @@
 -- Numbers read from the bits of bytes, a bit and a field at a time.
-use Rattle.std.proofs.Common.{◌≡◌, ℕ, zero, suc, ◌+◌, ◌-◌, ◌*◌, ◌/◌, ◌%◌, ◌^◌, ◌<◌, ◌≤◌, List, [], ◌∷◌, ◌++◌, length, get_or, take, drop, Ok, Err, sym, refl, ap, ◌∙◌, arith, pow-add}
-use Rattle.std.proofs.lemmas.List.{drop_more}
+use Rattle.std.proofs.Common.{◌≡◌, ℕ, zero, suc, ◌+◌, ◌-◌, ◌*◌, ◌/◌, ◌%◌, ◌^◌, ◌<◌, ◌≤◌, List, [], ◌∷◌, ◌++◌, length, get_or, map, take, drop, Ok, Err, Result, sym, refl, ap, ◌∙◌, arith, pow-add}
+use Rattle.std.proofs.lemmas.List.{drop_more, map-id, take_all}
 use Rattle.std.proofs.lemmas.Bool.{cond-true, cond-false, le-leb, lt-leb, lt-ltb, le-ltb}
-use Rattle.record.specs.Queue.{after_push}
 use Rattle.card.specs.Bits.{bits, fields, stream, spelled}
-use Rattle.card.specs.Card.{ending, field, gather, refused}
+use Rattle.card.specs.Card.{accepted, ending, field, gather, mapped, refused}
 use Rattle.card.specs.declared.refusal.CardFault.TheVariants.{BytesEnd, LeftOver}
 use Rattle.card.specs.declared.refusal.CardRefusal.{CardRefusal}
 use Rattle.card.proofs.Packs.{fields_long}
@@ -44,20 +43,22 @@ unfolding spelled
 spelled_none s p from = refl
 
 -- one bit more doubles the bound
-pub doubles : (v w l b : ℕ) → v < 2 ^ (w - l) → 0 < l → l ≤ w → b < 2 → v * 2 + b < 2 ^ (w - (l - 1))
-doubles v w l b h p q r =
-    let e : w - (l - 1) ≡ (w - l) + 1 = omega arith in
-    let f : 2 ^ ((w - l) + 1) ≡ 2 ^ (w - l) * 2 = pow-add 2 (w - l) 1 in
-    rw (e, f) (omega arith)
+pub doubles : (v n b : ℕ) → v < 2 ^ n → b < 2 → v * 2 + b < 2 ^ (n + 1)
+doubles v n b h r = let f : 2 ^ (n + 1) ≡ 2 ^ n * 2 = pow-add 2 n 1 in omega arith
 
 pub gather_none : (front s : List ℕ) (p w : ℕ) → gather front s p w 0 ≡ Ok front
 unfolding gather
 gather_none front s p w = refl
 
-pub gather_ok : (front s : List ℕ) (p w n v : ℕ) → 0 < n → field s p w ≡ Ok v → gather front s p w n ≡ gather (front ++ v ∷ []) s (p + w) w (n - 1)
+-- a field more goes behind those in front
+pub gather_on : (front longer s : List ℕ) (p q w n m v : ℕ) (z : Result (List ℕ) CardRefusal) → 0 < n → field s p w ≡ Ok v → longer ≡ front ++ v ∷ [] → q ≡ p + w → m ≡ n - 1 → gather front s p w n ≡ z
+    → gather longer s q w m ≡ z
 unfolding gather
-gather_ok front s p w zero v h e = absurd (omega arith)
-gather_ok front s p w (suc n) v h e = let k : suc n - 1 ≡ n = omega arith in rw (k, e) refl
+gather_on front longer s p q w zero m v z h e el eq em i = absurd (omega arith)
+gather_on front longer s p q w (suc n) m v z h e el eq em i =
+    let k : m ≡ n = omega arith in
+    let one : gather front s p w (suc n) ≡ gather (front ++ v ∷ []) s (p + w) w n = rw e refl in
+    rw (el, eq, k) (sym one ∙ i)
 
 pub gather_err : (front s : List ℕ) (p w n : ℕ) (r : CardRefusal) → 0 < n → field s p w ≡ Err r → gather front s p w n ≡ Err r
 unfolding gather
@@ -86,6 +87,7 @@ ending_done bytes p z e e0 h =
     let t = le-ltb (p + 7) (length (stream bytes)) (omega arith) in
     rw (← e, e0, t) refl
 
--- a queue that is not full takes a byte
-pub pushed : (xs : List ℕ) (y : ℕ) → length xs < 64 → after_push xs y ≡ xs ++ y ∷ []
-pushed xs y h = cond-true _ _ _ (lt-ltb (length xs) 64 h)
+-- characters that were read, as the queue that they make
+pub queue_read : (out s q : List ℕ) (p n m : ℕ) → q ≡ take 64 out → mapped (λ _. map (λ x. x) out) accepted ≡ gather [] s p 8 m → length out ≡ m → m ≡ n → n ≤ 64 → Ok q ≡ gather [] s p 8 n
+queue_read out s q p n m eq e long em h =
+    ap Ok (eq ∙ (take_all 64 out (omega arith) ∙ sym (map-id out))) ∙ (e ∙ ap (gather [] s p 8) em)

@@ -3,6 +3,7 @@
 -- of 32 bits, the keys and the tray characters of 8 bits each, oldest first, 7 zero bits.
 use Rattle.std.specs.Prelude.{ℕ, zero, suc, ◌+◌, ◌*◌, cond, List, [], ◌∷◌, ◌++◌, length, take, drop, Ok, Err, Result, ◌==◌, nat_le, nat_lt}
 use Rattle.card.specs.Bits.{bits, fields, pack, spelled, stream}
+use Rattle.card.specs.Refusal.{told}
 use Rattle.card.specs.declared.refusal.CardFault.{CardFault}
 use Rattle.card.specs.declared.refusal.CardFault.TheVariants.{BytesEnd, WrongEdition, CountOver, BadPadding, LeftOver}
 use Rattle.card.specs.declared.refusal.CardRefusal.{CardRefusal}
@@ -41,7 +42,7 @@ mapped f (Ok x) = Ok (f x)
 mapped f (Err e) = Err e
 
 abbrev pub refused : {A : Type 0} → CardFault → ℕ → Result A CardRefusal
-refused fault bit = Err (record { fault = fault; bit = bit })
+refused fault bit = Err (told fault bit)
 
 abbrev pub accepted : Result Unit CardRefusal
 accepted = Ok tt

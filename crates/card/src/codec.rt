@@ -1,4 +1,4 @@
-ghost use Rattle.std.specs.Prelude.{◌≡◌, ℕ, ◌*◌, ◌^◌, ◌<◌, length, OnOk, slice_index};
+ghost use Rattle.std.specs.Prelude.{◌≡◌, ℕ, ◌*◌, ◌^◌, ◌<◌, length, map, OnOk, slice_index};
 ghost use Rattle.card.specs.Bits.{fields};
 ghost use Rattle.card.specs.Card.{after_write, card_bits, mapped, read as the_card, size, write_answer};
 ghost use Rattle.card.specs.Laws.{Proper, ReadsBack, WritesBack, after_copy, checked_answer, copy_answer};
@@ -6,7 +6,8 @@ ghost use Rattle.card.specs.Writer.{Moved, Ready, lent, run, state};
 ghost use Rattle.record.specs.Contents.{contents};
 ghost use Rattle.record.specs.View.{view};
 
-use crate::reader::{read_count, read_edition, read_end, read_field, read_queue, read_words};
+use crate::field::{COUNT, EDITION, FLAGS, Field, PADDING};
+use crate::reader::{read_count, read_edition, read_end, read_field, read_fields, read_queue};
 use crate::refusal::{CardRefusal, CopyRefusal, WriterRefusal};
 use crate::writer::BitWriter;
 use record::machine::{Record, WORDS};
@@ -16,39 +17,26 @@ pub const LONGEST: usize = 228;
 
 // The first bits of the fields behind the edition. Behind the words come the keys, the tray and
 // the padding.
-const FLAGS_AT: usize = 4;
+const FLAGS_AT: u32 = 4;
 
-const KEY_COUNT_AT: usize = 11;
+const KEY_COUNT_AT: u32 = 11;
 
-const TRAY_COUNT_AT: usize = 18;
+const TRAY_COUNT_AT: u32 = 18;
 
-const WORDS_AT: usize = 25;
+const WORDS_AT: u32 = 25;
 
-const KEYS_AT: usize = WORDS_AT + 32 * WORDS;
+const KEYS_AT: u32 = WORDS_AT + 32 * WORDS as u32;
 
-// Puts words, 32 bits each.
-fn put_words(w: &mut BitWriter, words: &[u32])
-    requires { Ready (state w.old) (32 * length words.now) }
+// Puts a row of fields.
+fn put_fields<T: Field>(w: &mut BitWriter, values: &[T])
+    requires { Ready (state w.old) (T.wide * length values.now) }
     ensures same { lent w.new ≡ lent w.old }
-    ensures after { state w.new ≡ run (state w.old) (fields 32 words.now) }
-    ensures moved { Moved (state w.old) (state w.new) (32 * length words.now) }
-    ensures fit { (i : ℕ) → slice_index words.now i < 2 ^ 32 }
+    ensures after { state w.new ≡ run (state w.old) (fields T.wide (map T.value values.now)) }
+    ensures moved { Moved (state w.old) (state w.new) (T.wide * length values.now) }
+    ensures fit { (i : ℕ) → slice_index (map T.value values.now) i < 2 ^ T.wide }
 {
-    for word in words {
-        w.put_known(*word, 32);
-    }
-}
-
-// Puts characters, 8 bits each.
-fn put_bytes(w: &mut BitWriter, bytes: &[u8])
-    requires { Ready (state w.old) (8 * length bytes.now) }
-    ensures same { lent w.new ≡ lent w.old }
-    ensures after { state w.new ≡ run (state w.old) (fields 8 bytes.now) }
-    ensures moved { Moved (state w.old) (state w.new) (8 * length bytes.now) }
-    ensures fit { (i : ℕ) → slice_index bytes.now i < 2 ^ 8 }
-{
-    for byte in bytes {
-        w.put_known(u32::from(*byte), 8);
+    for value in values {
+        w.put_known(value.number(), T::width());
     }
 }
 
@@ -63,14 +51,14 @@ fn put_card(w: &mut BitWriter, machine: &Record)
     let words = machine.words();
     let keys = machine.keys.as_slice();
     let tray = machine.tray.as_slice();
-    w.put_known(1, 4);
-    w.put_known(machine.flags(), 7);
-    w.put_known(keys.len() as u32, 7);
-    w.put_known(tray.len() as u32, 7);
-    put_words(w, &words);
-    put_bytes(w, keys);
-    put_bytes(w, tray);
-    w.put_known(0, 7);
+    w.put_known(1, EDITION);
+    w.put_known(machine.flags(), FLAGS);
+    w.put_known(keys.len() as u32, COUNT);
+    w.put_known(tray.len() as u32, COUNT);
+    put_fields(w, &words);
+    put_fields(w, keys);
+    put_fields(w, tray);
+    w.put_known(0, PADDING);
 }
 
 // Writes a machine record's card to the front of a buffer and answers how many bytes it has. A
@@ -94,10 +82,11 @@ pub fn read_card(bytes: &[u8]) -> Result<Record, CardRefusal>
     ensures { mapped (λ m. view (contents m)) result ≡ the_card bytes.now }
 {
     read_edition(bytes)?;
-    let flags = read_field(bytes, FLAGS_AT, 7)?;
+    let flags = read_field(bytes, FLAGS_AT, FLAGS)?;
     let keyed = read_count(bytes, KEY_COUNT_AT)?;
     let trayed = read_count(bytes, TRAY_COUNT_AT)?;
-    let words = read_words(bytes, WORDS_AT)?;
+    let mut words = [0; WORDS];
+    read_fields(bytes, WORDS_AT, &mut words)?;
     let keys = read_queue(bytes, KEYS_AT, keyed)?;
     let tray = read_queue(bytes, KEYS_AT + 8 * keyed, trayed)?;
     read_end(bytes, KEYS_AT + 8 * keyed + 8 * trayed)?;
@@ -128,19 +117,15 @@ pub fn copy_card(bytes: &[u8], out: &mut [u8]) -> Result<usize, CopyRefusal>
 }
 
 // The law that a card that is written reads back as what was written: see `ReadsBack`.
-pub fn reads_back() -> u8
+pub fn reads_back()
     ensures { ReadsBack }
-{
-    0
-}
+{}
 
 // The law that bytes that read as a card are that card, so that no two cards mean one record: see
 // `WritesBack`.
-pub fn writes_back() -> u8
+pub fn writes_back()
     ensures { WritesBack }
-{
-    0
-}
+{}
 
 #[cfg(test)]
 mod tests {
@@ -151,7 +136,7 @@ mod tests {
     fn refusal(bytes: &[u8]) -> (u8, usize) {
         match read_card(bytes) {
             Ok(_) => (0, 0),
-            Err(refusal) => (refusal.fault.number(), refusal.bit),
+            Err(refusal) => (u8::from(refusal.fault), refusal.bit),
         }
     }
 

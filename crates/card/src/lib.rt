@@ -2,6 +2,7 @@
 #![tactic(auto)]
 
 pub mod codec;
+mod field;
 mod place;
 mod reader;
 pub mod refusal;

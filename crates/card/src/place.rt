@@ -2,7 +2,7 @@ ghost use Rattle.std.specs.Prelude.{◌^◌, ◌<◌};
 
 // Where a writer stands: how many bytes are full, the pending bits as a number, and how many
 // those are.
-#[derive(Clone, Copy)]
+#[derive(Clone, Copy, Debug, PartialEq, Eq)]
 pub struct Place {
     pub full: usize,
     pub pending: u8,

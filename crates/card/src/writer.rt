@@ -2,12 +2,25 @@ ghost use Rattle.std.specs.Prelude.{◌≡◌, ◌+◌, ◌/◌, ◌<◌, ◌≤
 ghost use Rattle.card.specs.Bits.{bits};
 ghost use Rattle.card.specs.Writer.{Moved, PutsPack, Ready, after_finish, after_put, finish_answer, lent, narrow, put_answer, room, run, start, state, step, within};
 
+use crate::field::Width;
 use crate::place::Place;
 use crate::refusal::WriterRefusal;
 
+// A buffer and a place in it go together as `BitWriter` below. What stores bits (`push`, `store`) is
+// a function of the two and no method of it: we tried that, and in `finish`, which takes a writer by
+// value, what the buffer holds at the end was not proved of a writer whose methods had lent it on.
+//
+// A value and its width are two parameters. As a struct they would be put together at each call only
+// to be taken apart in it.
+//
+// That a writer has a place for the bits to come (`Ready`), keeps its buffer (`same`) and moves on by
+// so many bits (`moved`) is said of each call. These are facts of a call and of no value, so no type
+// can carry them.
+
 // One bit more: the eighth pending bit stores the byte.
 fn push(out: &mut [u8], at: Place, bit: u8) -> Place
-    requires { (bit < 2) × ((7 ≤ at.count → at.full < length out.old)) }
+    requires bit { bit < 2 }
+    requires place { 7 ≤ at.count → at.full < length out.old }
     ensures { within out.new result ≡ step (within out.old at) bit }
 {
     let value = at.pending * 2 + bit;
@@ -28,22 +41,19 @@ fn push(out: &mut [u8], at: Place, bit: u8) -> Place
 
 // Whether there is a place for each byte that so many more bits fill.
 fn fits(len: usize, at: Place, width: u32) -> bool
-    requires { width ≤ 32 }
     ensures { result ≡ nat_le (at.full + (at.count + width) / 8) len }
 {
-    let bytes = ((u32::from(at.count) + width) / 8) as usize;
-    at.full <= len && bytes <= len - at.full
+    let bytes = (u64::from(at.count) + u64::from(width)) / 8;
+    at.full <= len && bytes as usize <= len - at.full
 }
 
 // The low bits of a value, most significant first.
-fn store(out: &mut [u8], from: Place, value: u32, width: u32) -> Place
-    requires { (width ≤ 32) × (room (within out.old from) width ≡ true) }
-    ensures { within out.new result ≡ run (within out.old from) (bits width value) }
+fn store(out: &mut [u8], from: Place, value: u32, width: Width) -> Place
+    requires { room (within out.old from) width.bits ≡ true }
+    ensures { within out.new result ≡ run (within out.old from) (bits width.bits value) }
 {
     let mut at = from;
-    let mut left = width;
-    while left > 0 {
-        left -= 1;
+    for left in (0..width.bits).rev() {
         at = push(out, at, ((value >> left) % 2) as u8);
     }
     at
@@ -56,8 +66,9 @@ fn is_narrow(value: u32, width: u32) -> bool
     width > 0 && width <= 32 && (width == 32 || value >> width == 0)
 }
 
-// Writes bits into a lent buffer, most significant first. Full bytes are stored at once, and up
-// to seven bits are pending. A writer is spent by `finish` or `strike`; it cannot be let go.
+// Writes bits into a buffer, most significant first. The buffer is lent, so that no writer takes
+// memory. Full bytes are stored at once, and up to seven bits are pending. A writer is spent by
+// `finish` or `strike`; it cannot be let go.
 pub struct BitWriter<'a> {
     out: &'a mut [u8],
     place: Place,
@@ -89,23 +100,21 @@ impl<'a> BitWriter<'a> {
         if !is_narrow(value, width) {
             return Err(WriterRefusal::BadField);
         }
-        let from = self.place;
-        if !fits(self.out.len(), from, width) {
+        if !fits(self.out.len(), self.place, width) {
             return Err(WriterRefusal::NoPlace);
         }
-        self.put_known(value, width);
+        self.put_known(value, Width { bits: width });
         Ok(())
     }
 
-    // The same where the caller knows that there is a place: the low bits of the value.
-    pub(crate) fn put_known(&mut self, value: u32, width: u32)
-        requires { (width ≤ 32) × (Ready (state self.old) width) }
+    // The low bits of a value, where the caller knows that they have a place.
+    pub(crate) fn put_known(&mut self, value: u32, width: Width)
+        requires { Ready (state self.old) width.bits }
         ensures same { lent self.new ≡ lent self.old }
-        ensures after { state self.new ≡ run (state self.old) (bits width value) }
-        ensures moved { Moved (state self.old) (state self.new) width }
+        ensures after { state self.new ≡ run (state self.old) (bits width.bits value) }
+        ensures moved { Moved (state self.old) (state self.new) width.bits }
     {
-        let from = self.place;
-        self.place = store(self.out, from, value, width);
+        self.place = store(self.out, self.place, value, width);
     }
 
     // Pads with zeros to a full byte and answers how many bytes were written, or refuses where
@@ -119,8 +128,7 @@ impl<'a> BitWriter<'a> {
         if !fits(out.len(), place, pad) {
             return Err(WriterRefusal::NoPlace);
         }
-        let end = store(out, place, 0, pad);
-        Ok(end.full)
+        Ok(store(out, place, 0, Width { bits: pad }).full)
     }
 
     // Ends the writer and writes nothing more. The full bytes stay.
@@ -132,8 +140,6 @@ impl<'a> BitWriter<'a> {
 }
 
 // The law of what bits leave in a buffer: see `PutsPack`.
-pub fn puts_pack() -> u8
+pub fn puts_pack()
     ensures { PutsPack }
-{
-    0
-}
+{}

@@ -1,4 +1,5 @@
 use Rattle.std.proofs.Common.{length, ap, ◌∙◌, arith}
+use Rattle.std.proofs.lemmas.List.{map-id}
 use Rattle.record.specs.Contents.{contents}
 use Rattle.record.specs.View.{view}
 use Rattle.card.proofs.Cards.{card_run}
@@ -10,9 +11,9 @@ returns c =
     let p2 = c.put_known-2.ensures in
     let p3 = c.put_known-3.ensures in
     let p4 = c.put_known-4.ensures in
-    let p5 = c.put_words.ensures in
-    let p6 = c.put_bytes.ensures in
-    let p7 = c.put_bytes-2.ensures in
+    let p5 = c.put_fields.ensures in
+    let p6 = c.put_fields-2.ensures in
+    let p7 = c.put_fields-3.ensures in
     let p8 = c.put_known-5.ensures in
     let ws = c.words-words.ensures.value in
     let ks = c.as_slice-keys.ensures.value in
@@ -24,7 +25,7 @@ returns c =
     record {
       same = p8.same ∙ (p7.same ∙ (p6.same ∙ (p5.same ∙ (p4.same ∙ (p3.same ∙ (p2.same ∙ p1.same))))));
       after = card_run (view (contents c.args.machine.now)) _ _ _ _ _ _ _ _ _ _ _ _ _ _ _
-          c.flags.ensures.value lk lt ws ks ts
+          c.flags.ensures.value lk lt (map-id _ ∙ ws) (map-id _ ∙ ks) (map-id _ ∙ ts)
           p1.after p2.after p3.after p4.after p5.after p6.after p7.after p8.after;
       moved = record {
         few = p8.moved.few;
@@ -36,8 +37,8 @@ returns c =
         flagged = omega arith;
         keyed = omega arith;
         trayed = omega arith;
-        words_fit = λ i. rw ws at (p5.fit i);
-        keys_fit = λ i. rw ks at (p6.fit i);
-        tray_fits = λ i. rw ts at (p7.fit i);
+        words_fit = λ i. rw (map-id _ ∙ ws) at (p5.fit i);
+        keys_fit = λ i. rw (map-id _ ∙ ks) at (p6.fit i);
+        tray_fits = λ i. rw (map-id _ ∙ ts) at (p7.fit i);
       };
     }

@@ -1,13 +1,9 @@
-use Rattle.std.proofs.Common.{◌≡◌, ◌+◌, ◌-◌, ◌^◌, ◌<◌, ◌≤◌, take, drop}
+use Rattle.std.proofs.Common.{◌≡◌, ◌+◌, ◌-◌, ◌^◌, ◌<◌, take, drop}
 use Rattle.card.specs.Bits.{spelled, stream}
 use Rattle.card.proofs.reader.number.Given as goal
 
-abbrev pub invariant-loop-left : goal.invariant-loop-left
-invariant-loop-left l =
-    (l.left ≤ l.width)
-    × (l.at + l.left ≡ l.from + l.width)
-    × (spelled l.value (take l.left (drop l.at (stream l.bytes))) ≡ spelled 0 (take l.width (drop l.from (stream l.bytes))))
-    × (l.value < 2 ^ (l.width - l.left))
-
-abbrev pub decreases-loop-left : goal.decreases-loop-left
-decreases-loop-left l = l.left
+-- the bits that are left spell the rest of the number
+abbrev pub invariant-loop-i : goal.invariant-loop-i
+invariant-loop-i l =
+    (spelled l.value (take (l.fn.width.bits - l.i) (drop (l.from + l.i) (stream l.bytes))) ≡ spelled 0 (take l.fn.width.bits (drop l.from (stream l.bytes))))
+    × (l.value < 2 ^ l.i)
