@@ -1,10 +1,13 @@
 -- Where the blocks of a plan lie: within its blocks, and apart.
-use Rattle.std.proofs.Common.{◌≡◌, ℕ, zero, suc, ◌+◌, ◌-◌, ◌<◌, ◌≤◌, true, leb, List, [], ◌∷◌, length, get_or, take, sum, subst, ⊎_elim, arith}
+use Rattle.std.proofs.Common.{ap, add-one, ◌≡◌, ℕ, zero, suc, ◌*◌, map, refl, ◌+◌, ◌-◌, ◌<◌, ◌≤◌, true, List, length, get_or, take, sum, subst, ⊎_elim, arith}
 use Rattle.shelf.specs.Plan.{no_drives, size_of, start, within}
-use Rattle.std.proofs.lemmas.List.{get_or_past, get_or-replicate, take-take}
-use Rattle.std.proofs.lemmas.List.Sums.{sum_by_more, sum_by-take-le}
-use Rattle.std.proofs.lemmas.Bool.{and_parts, cases_lt, leb-true}
 use Rattle.std.proofs.lemmas.Bool.Decides.{nat_tests}
+use Rattle.std.proofs.lemmas.Bool.{cases_lt}
+use Rattle.std.proofs.lemmas.Grind.{common_steps}
+use Rattle.std.proofs.lemmas.List.FromFn.{length-map-range_with_len, get_or-map-range_with_len}
+use Rattle.std.proofs.lemmas.List.Sums.{AllPass-from_list_all, sum_by_more, sum_by-take-le}
+use Rattle.std.proofs.lemmas.List.{length-take, same_lists, get_or_past, take-take}
+use Rattle.std.specs.List.{range_with_len}
 
 -- a drive with a block is one of the list, and not drive 0
 pub there : (sizes : List ℕ) (d b : ℕ) → b < size_of sizes d → (1 ≤ d) × (d ≤ 8) × (d - 1 < length sizes) × (b < get_or sizes (d - 1) 0)
@@ -38,9 +41,7 @@ before sizes e c d b he hd lt =
 
 -- where no drive is over a limit, none is
 within_each : (limit : ℕ) (sizes : List ℕ) (k : ℕ) → within limit sizes ≡ true → get_or sizes k 0 ≤ limit
-within_each limit [] k h = omega arith
-within_each limit (size ∷ sizes) zero h = leb-true size limit (and_parts (leb size limit) (within limit sizes) h).0
-within_each limit (size ∷ sizes) (suc k) h = within_each limit sizes k (and_parts (leb size limit) (within limit sizes) h).1
+within_each limit sizes k h = grind (arith, common_steps, AllPass-from_list_all)
 
 pub within_size : (limit : ℕ) (sizes : List ℕ) (d : ℕ) → within limit sizes ≡ true → size_of sizes d ≤ limit
 within_size limit sizes d h = let e = within_each limit sizes (d - 1) h in grind (arith, nat_tests)
@@ -55,6 +56,22 @@ eight_drives sizes d h = let t = there sizes d 0 h in (t.0, t.1)
 
 -- a plan without drives
 pub no_size : (d : ℕ) → size_of no_drives d ≡ 0
-no_size d =
-    let e : get_or no_drives (d - 1) 0 ≡ 0 = ⊎_elim (λ (l : d - 1 < 8). get_or-replicate 8 (d - 1) 0 0 l) (λ (g : 8 ≤ d - 1). get_or_past no_drives (d - 1) 0 g) (cases_lt (d - 1) 8) in
-    grind (arith, nat_tests)
+no_size d = grind (arith, common_steps, nat_tests)
+
+-- the drives before a drive, by their numbers
+pub sizes_before : (sizes : List ℕ) (n : ℕ) → length sizes ≡ 8 → n ≤ 8 → take n sizes ≡ map (size_of sizes) (range_with_len 1 n)
+sizes_before sizes n e h =
+    let long : length (take n sizes) ≡ n = omega (arith, length-take n sizes) in
+    same_lists _ _ (omega (arith, length-map-range_with_len (size_of sizes) 1 n))
+    (λ k d l.
+    let s : size_of sizes (1 + k) ≡ get_or sizes (1 + k - 1) 0 = grind (arith, nat_tests) in
+    let r = get_or-map-range_with_len (size_of sizes) 1 n k (1 + k) d (omega arith) refl in
+    grind (arith, common_steps))
+
+-- they have few blocks
+pub few_before : (sizes : List ℕ) (n : ℕ) → ((k : ℕ) → get_or sizes k 0 ≤ 65536) → n ≤ length sizes → sum (take n sizes) ≤ 65536 * n
+few_before sizes zero few h = omega arith
+few_before sizes (suc n) few h =
+    let i = few_before sizes n few (omega arith) in
+    let e = ap (λ (k : ℕ). sum (take k sizes)) (add-one n) in
+    omega (arith, few n, start_more sizes n (omega arith))

@@ -1,5 +1,6 @@
 -- Plans: the sizes of drives 1 to 8, in a list of eight, and where their blocks lie.
-use Rattle.std.specs.Prelude.{◌≡◌, ℕ, ◌+◌, ◌-◌, ◌<◌, ◌≤◌, Bool, true, cond, ◌&&◌, List, [], ◌∷◌, take, replicate, Some, None, Ok, Err, sum, Option, Result, ◌==◌, nat_le, slice_index, slice_set}
+use Rattle.std.specs.Prelude.{◌≡◌, ℕ, ◌+◌, ◌-◌, ◌<◌, ◌≤◌, Bool, cond, ◌&&◌, List, take, replicate, Some, None, Ok, Err, sum, Option, Result, ◌==◌, nat_le, slice_index, slice_set}
+use Rattle.std.specs.List.{list_all}
 use Rattle.shelf.specs.declared.refusal.PlanRefusal.{PlanRefusal}
 use Rattle.shelf.specs.declared.refusal.PlanRefusal.TheVariants.{BadLength, DeclaredBefore, NoSuchDrive}
 
@@ -27,8 +28,7 @@ after_declare sizes d n =
 
 -- No drive is longer than the limit.
 abbrev pub within : ℕ → List ℕ → Bool
-within limit [] = true
-within limit (size ∷ sizes) = nat_le size limit && within limit sizes
+within limit sizes = list_all (λ size. nat_le size limit) sizes
 
 -- Blocks lie drive by drive, in the order of their numbers: those of drive d begin behind these.
 abbrev pub start : List ℕ → ℕ → ℕ

@@ -21,10 +21,14 @@ abbrev pub block_number : BlockRefusal → ℕ
 block_number NoSuchBlock = 6
 block_number RunsShort = 7
 
+-- A refusal, told with the block.
+abbrev pub fault : BlockRefusal → ℕ → ℕ → BlockFault
+fault r d b = record { refusal = r; at = record { drive = d; block = b } }
+
 -- There is no such block.
 abbrev pub no_such : ℕ → ℕ → BlockFault
-no_such d b = record { refusal = NoSuchBlock; drive = d; block = b }
+no_such d b = fault NoSuchBlock d b
 
 -- A write of the block runs short.
 abbrev pub short : ℕ → ℕ → BlockFault
-short d b = record { refusal = RunsShort; drive = d; block = b }
+short d b = fault RunsShort d b

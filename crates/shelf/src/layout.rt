@@ -1,6 +1,7 @@
 ghost use Rattle.std.specs.Prelude.{◌≡◌, ◌≤◌, sum};
 ghost use Rattle.shelf.specs.Plan.{Placed, start};
 
+use crate::address::BlockAddress;
 use crate::plan::ClosedPlan;
 
 // How many blocks the drives before a drive have.
@@ -9,13 +10,7 @@ fn blocks_before(plan: &ClosedPlan, drive: u32) -> usize
     ensures value { result ≡ start plan.now.sizes drive }
     ensures bound { result ≤ 524288 }
 {
-    let mut sum: usize = 0;
-    let mut d = 1;
-    while d < drive {
-        sum += plan.size(d) as usize;
-        d += 1;
-    }
-    sum
+    (1..drive).map(|before| plan.size(before) as usize).sum()
 }
 
 // How many blocks all drives have.
@@ -27,11 +22,11 @@ pub fn blocks(plan: &ClosedPlan) -> usize
 }
 
 // Where a block lies among the blocks of all drives, drive by drive from drive 1 on.
-pub fn place(plan: &ClosedPlan, drive: u32, block: u32) -> Option<usize>
-    ensures { Placed plan.now.sizes drive block result }
+pub fn place(plan: &ClosedPlan, at: BlockAddress) -> Option<usize>
+    ensures { Placed plan.now.sizes at.drive at.block result }
 {
-    if block < plan.size(drive) {
-        Some(blocks_before(plan, drive) + block as usize)
+    if plan.has(at) {
+        Some(blocks_before(plan, at.drive) + at.block as usize)
     } else {
         None
     }

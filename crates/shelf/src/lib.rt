@@ -2,6 +2,7 @@
 // lie in a row of words.
 #![tactic(auto)]
 
+pub mod address;
 pub mod layout;
 pub mod make;
 pub mod plan;

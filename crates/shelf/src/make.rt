@@ -1,6 +1,7 @@
 ghost use Rattle.std.specs.Prelude.{◌≡◌, ℕ, ◌<◌, ◌≤◌, false, []};
 ghost use Rattle.shelf.specs.Meaning.{after_write, Block, drives_answer, kept_sizes, Meaning, read_answer, read_out, write_answer};
 
+use crate::address::BlockAddress;
 use crate::plan::{ClosedPlan, OpenPlan};
 use crate::refusal::{BlockFault, ShelfRefusal};
 
@@ -15,7 +16,8 @@ pub trait Shelf {
     // The same number as LONGEST, for clauses and laws.
     ghost most: { ℕ };
 
-    // The make's LONGEST.
+    // The make's LONGEST. Each make has the same body for it: a default body would owe that LONGEST
+    // is `most`, which the prover cannot be told of a type with a lifetime.
     fn limit() -> u32
         ensures { result ≡ most };
 
@@ -28,18 +30,18 @@ pub trait Shelf {
         ensures { result ≡ (meaning self.now).spare };
 
     // Whether a block is held: a write of it never runs short.
-    fn holds(&self, drive: u32, block: u32) -> bool
-        ensures { result ≡ (meaning self.now).held drive block };
+    fn holds(&self, at: BlockAddress) -> bool
+        ensures { result ≡ (meaning self.now).held at.drive at.block };
 
     // Reads a block. A refusal leaves the buffer.
-    fn read(&self, drive: u32, block: u32, out: &mut [u32; 128]) -> Result<(), BlockFault>
-        ensures answer { result ≡ read_answer (meaning self.now) drive block }
-        ensures after { out.new ≡ read_out (meaning self.now) drive block out.old };
+    fn read(&self, at: BlockAddress, out: &mut [u32; 128]) -> Result<(), BlockFault>
+        ensures answer { result ≡ read_answer (meaning self.now) at.drive at.block }
+        ensures after { out.new ≡ read_out (meaning self.now) at.drive at.block out.old };
 
     // Writes a block. A refusal keeps the shelf.
-    fn write(&mut self, drive: u32, block: u32, words: &[u32; 128]) -> Result<(), BlockFault>
-        ensures answer { result ≡ write_answer (meaning self.old) drive block }
-        ensures after { meaning self.new ≡ after_write (meaning self.old) drive block words.now };
+    fn write(&mut self, at: BlockAddress, words: &[u32; 128]) -> Result<(), BlockFault>
+        ensures answer { result ≡ write_answer (meaning self.old) at.drive at.block }
+        ensures after { meaning self.new ≡ after_write (meaning self.old) at.drive at.block words.now };
 
     // No make offers more than 65,536 blocks.
     ghost offered: { most ≤ 65536 };

@@ -1,20 +1,17 @@
-use Rattle.shelf.proofs.Counts.{held_no, held_none, held_yes}
 use Rattle.shelf.proofs.room.room_of.Goals as goal
-use Rattle.shelf.proofs.room.room_of.Goals.{else-holds, then-holds}
-use Rattle.std.proofs.Common.{sym, arith}
+use Rattle.std.proofs.Common.{◌≡◌, ◌∙◌, rules, arith}
+use Rattle.std.proofs.lemmas.Iterator.{YieldsList-from_range}
+use Rattle.std.proofs.lemmas.Iterator.Consumers.{YieldsList-from_filter, count_from_yields_List}
+use Rattle.std.proofs.lemmas.List.Sums.{length-filter}
+use Rattle.std.specs.List.{count_by, range_with_len}
+use borrow.Author.Tests.{tests}
 
-pub loop-block-init : goal.loop-block-init
-loop-block-init g c = (sym (held_none (g.S.Shelf.meaning c.args.shelf.now) c.args.drive), omega arith)
-
-pub loop-block-preserved : goal.loop-block-preserved
-loop-block-preserved g c =
-    elim c.if-holds.branch [
-      | then-holds w ↦
-          let e = held_yes (g.S.Shelf.meaning c.args.shelf.now) c.args.drive c.loop-block.block (sym w.if-holds.ensures) in
-          let n = w.held-is in
-          (omega arith, omega arith)
-      | else-holds w ↦
-          let e = held_no (g.S.Shelf.meaning c.args.shelf.now) c.args.drive c.loop-block.block (sym w.if-holds.ensures) in
-          let n = w.held-is in
-          (omega arith, omega arith)
-    ]
+pub returns : goal.returns
+returns g c =
+    let m = g.S.Shelf.meaning c.args.shelf.now in
+    let n = c.size-blocks.result in
+    let held : c.count-held.result ≡ count_by (m.held c.args.drive) (range_with_len 0 n) =
+    count_from_yields_List c.filter.result c.count-held.result c.count-held.ensures.ran
+    (YieldsList-from_filter _ (m.held c.args.drive) (YieldsList-from_range 0 n n c.filter.ensures.source (omega arith)) c.filter.ensures.closure (λ x r q k. search (rules, tests)))
+    ∙ length-filter (m.held c.args.drive) (range_with_len 0 n) in
+    search rules
