@@ -1,5 +1,5 @@
 -- What a dense shelf means after it is made and after a write.
-use Rattle.std.proofs.Common.{◌≡◌, ℕ, ◌+◌, ◌*◌, ◌<◌, ◌≤◌, true, false, cond, ◌||◌, ltb, ◌⊎◌, List, [], length, Ok, Err, sum, Result, sym, refl, ap, ◌∙◌, subst, subst₂, inl, inr, ⊎_elim, arith}
+use Rattle.std.proofs.Common.{◌≡◌, ℕ, ◌+◌, ◌*◌, ◌<◌, ◌≤◌, true, false, cond, ◌||◌, ltb, ◌⊎◌, List, [], length, Ok, Err, sum, Result, sym, refl, ap, ◌∙◌, subst, subst₂, ⊎_elim, arith}
 use Rattle.makes.proofs.Parts.{part_after, part_before, part_same}
 use Rattle.makes.specs.Dense.{dense, dense_block, dense_check, dense_made, dense_words}
 use Rattle.shelf.proofs.Meanings.{meaning_ext, same_cases, write_made}
@@ -14,21 +14,10 @@ use lib.Seq.{paste}
 apart : (sizes : List ℕ) (e c d b : ℕ) → c < size_of sizes e → b < size_of sizes d → ((e ≡ d) × (c ≡ b) → ⊥) →
     (start sizes e + c < start sizes d + b) ⊎ (start sizes d + b < start sizes e + c)
 apart sizes e c d b he hd ne =
-    ⊎_elim
-    (λ (lt : e < d). inl (before sizes e c d b he hd lt))
-    (λ (ge : d ≤ e).
-    ⊎_elim
-    (λ (lt : d < e). inr (before sizes d b e c hd he lt))
-    (λ (le : e ≤ d).
-    let ee : e ≡ d = omega arith in
-    let es : start sizes e ≡ start sizes d = ap (start sizes) ee in
-    ⊎_elim
-    (λ (lt : c < b). inl (omega arith))
-    (λ (gc : b ≤ c).
-    ⊎_elim (λ (lc : b < c). inr (omega arith)) (λ (lc : c ≤ b). let ec : c ≡ b = omega arith in absurd (ne (ee, ec))) (cases_lt b c))
-    (cases_lt c b))
-    (cases_lt d e))
-    (cases_lt e d)
+    let es : e ≡ d → start sizes e ≡ start sizes d = ap (start sizes) in
+    let lower = before sizes e c d b he hd in
+    let higher = before sizes d b e c hd he in
+    grind arith
 
 -- a dense shelf after 128 words went to the place of one of its blocks
 dense_put : (sizes words ws : List ℕ) (d b : ℕ) → b < size_of sizes d → 128 * sum sizes ≤ length words → length ws ≡ 128 → dense sizes (paste words (128 * (start sizes d + b)) ws 128) ≡ put (dense sizes words) d b ws

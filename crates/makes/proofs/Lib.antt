@@ -1,5 +1,5 @@
 pub mod Parts
-pub mod Searches
 pub mod Densely
+pub mod Positions
 pub mod Slots
 pub mod Sparsely

@@ -1,5 +1,6 @@
 -- The sparse make: a block is held where a slot is used for it, and reads as zeros elsewhere.
-use Rattle.std.specs.Prelude.{ℕ, ◌*◌, false, cond, ◌&&◌, ◌||◌, List, [], length, take, drop, replicate, Ok, Err, Result, nat_lt, slice_set}
+use Rattle.std.specs.Prelude.{ℕ, ◌*◌, false, cond, ◌&&◌, ◌||◌, List, [], take, drop, replicate, Ok, Err, is_some, Option, Result, nat_lt, slice_set}
+use Rattle.std.specs.Option.{option_map_or, option_or}
 use Rattle.makes.specs.Slot.{count_idle, find, first_idle, taken}
 use Rattle.makes.specs.declared.slot.Slot.{Slot}
 use Rattle.shelf.specs.Meaning.{Meaning, bare, made}
@@ -8,20 +9,21 @@ use Rattle.shelf.specs.declared.refusal.ShelfRefusal.{ShelfRefusal}
 use Rattle.shelf.specs.declared.refusal.ShelfRefusal.TheVariants.{DriveTooLong, UnfitMemory}
 use Rattle.std.proofs.Math.Seq.{paste}
 
+-- The words of a slot, zeros where there is none.
+abbrev pub slot_words : List ℕ → Option ℕ → List ℕ
+slot_words words slot = option_map_or (λ i. take 128 (drop (128 * i) words)) slot (replicate 128 0)
+
 -- The words of a block: those of its slot, zeros where it has none, and none where there is no
 -- block.
 abbrev pub sparse_block : List ℕ → List Slot → List ℕ → ℕ → ℕ → List ℕ
-sparse_block sizes slots words d b =
-    cond (nat_lt b (size_of sizes d))
-    (cond (nat_lt (find slots d b) (length slots)) (take 128 (drop (128 * find slots d b) words)) (replicate 128 0))
-    []
+sparse_block sizes slots words d b = cond (nat_lt b (size_of sizes d)) (slot_words words (find slots d b)) []
 
 -- What a sparse shelf of these sizes, slots and words means.
 abbrev pub sparse : List ℕ → List Slot → List ℕ → Meaning
 sparse sizes slots words = record {
   size = size_of sizes;
   block = sparse_block sizes slots words;
-  held = λ d b. nat_lt b (size_of sizes d) && nat_lt (find slots d b) (length slots);
+  held = λ d b. nat_lt b (size_of sizes d) && is_some (find slots d b);
   spare = count_idle slots;
 }
 
@@ -45,14 +47,13 @@ sparse_check sizes slots words =
 abbrev pub sparse_made : List ℕ → ℕ → ℕ → Meaning
 sparse_made sizes slots words = made (sparse_check sizes slots words) (empty sizes slots) (bare slots)
 
--- The slot that a write of the block goes to: its own, or else the first that is not used, or how
--- many slots there are where all are used.
-abbrev pub claim : List Slot → ℕ → ℕ → ℕ
-claim slots d b = cond (nat_lt (find slots d b) (length slots)) (find slots d b) (first_idle slots)
+-- The slot that a write of the block goes to: its own, or else the first that is not used.
+abbrev pub claim : List Slot → ℕ → ℕ → Option ℕ
+claim slots d b = option_or (find slots d b) (first_idle slots)
 
--- The slots then.
+-- The slots then: that one is used for the block.
 abbrev pub claimed : List Slot → ℕ → ℕ → List Slot
-claimed slots d b = cond (nat_lt (find slots d b) (length slots)) slots (slice_set slots (first_idle slots) (taken d b))
+claimed slots d b = option_map_or (λ i. slice_set slots i (taken d b)) (claim slots d b) slots
 
 -- The slots after a write: nothing is claimed where there is no such block.
 abbrev pub sparse_slots : List ℕ → List Slot → ℕ → ℕ → List Slot
@@ -61,4 +62,4 @@ sparse_slots sizes slots d b = cond (nat_lt b (size_of sizes d)) (claimed slots 
 -- The lent words after a write: those of the claimed slot are replaced, where there is one.
 abbrev pub sparse_words : List ℕ → List Slot → List ℕ → ℕ → ℕ → List ℕ → List ℕ
 sparse_words sizes slots words d b ws =
-    cond (nat_lt b (size_of sizes d)) (cond (nat_lt (claim slots d b) (length slots)) (paste words (128 * claim slots d b) ws 128) words) words
+    cond (nat_lt b (size_of sizes d)) (option_map_or (λ i. paste words (128 * i) ws 128) (claim slots d b) words) words

@@ -1,11 +1,12 @@
-ghost use Rattle.std.specs.Prelude.{◌≡◌, ℕ, ◌*◌, ◌^◌, ◌<◌, ◌≤◌, length, sum, slice_index};
+ghost use Rattle.std.specs.Prelude.{◌≡◌, ◌*◌, ◌≤◌, length, sum};
 ghost use Rattle.makes.specs.Dense.{dense, dense_check, dense_made, dense_words};
 ghost use Rattle.shelf.specs.Meaning.{after_write, write_answer};
 
 use crate::store::Store;
+use shelf::address::BlockAddress;
 use shelf::make::Shelf;
 use shelf::plan::ClosedPlan;
-use shelf::refusal::{BlockFault, ShelfRefusal};
+use shelf::refusal::{BlockFault, BlockRefusal, ShelfRefusal};
 use shelf::{layout, make};
 
 // A shelf that holds every block: the blocks of its drives, drive by drive, in words that are lent.
@@ -14,7 +15,6 @@ pub struct Dense<'a> {
     plan: ClosedPlan,
     store: Store<'a>,
     ghost enough: { 128 * sum plan.sizes ≤ length store.words.now },
-    ghost fit: { (k : ℕ) → slice_index store.words.now k < 2 ^ 32 },
 }
 
 // Whether so many words hold the drives of a plan.
@@ -29,7 +29,10 @@ pub fn check(plan: &ClosedPlan, words: usize) -> Result<(), ShelfRefusal>
 }
 
 impl<'a> Shelf for Dense<'a> {
-    ghost use Rattle.makes.specs.DenseLaws.{has_nothing, has_words, is_bounded, is_offered, only_eight};
+    ghost use Rattle.makes.specs.DenseLaws.{has_nothing, has_words, is_bounded};
+    ghost use Rattle.shelf.proofs.Drives.{eight_drives};
+    ghost use Rattle.std.proofs.Common.{refl};
+    ghost use Rattle.std.proofs.lemmas.Bool.{leb-true};
 
     const LONGEST: u32 = 65536;
 
@@ -37,11 +40,11 @@ impl<'a> Shelf for Dense<'a> {
 
     ghost most = { 65536 };
 
-    ghost offered = { is_offered };
+    ghost offered = { leb-true 65536 65536 refl };
 
     ghost bounded = { is_bounded };
 
-    ghost drives = { only_eight };
+    ghost drives = { λ s d h. eight_drives s.plan.sizes d h };
 
     ghost blocks = { has_words };
 
@@ -53,6 +56,7 @@ impl<'a> Shelf for Dense<'a> {
         Self::LONGEST
     }
 
+    // The plan's, as in the other make. A body for all makes would want a plan of each.
     fn size(&self, drive: u32) -> u32 {
         self.plan.size(drive)
     }
@@ -61,29 +65,25 @@ impl<'a> Shelf for Dense<'a> {
         0
     }
 
-    fn holds(&self, drive: u32, block: u32) -> bool {
-        block < self.plan.size(drive)
+    fn holds(&self, at: BlockAddress) -> bool {
+        self.plan.has(at)
     }
 
-    fn read(&self, drive: u32, block: u32, out: &mut [u32; 128]) -> Result<(), BlockFault> {
-        let Some(at) = layout::place(&self.plan, drive, block) else {
-            return Err(BlockFault::no_such(drive, block));
-        };
-        self.store.get(at, out);
+    fn read(&self, at: BlockAddress, out: &mut [u32; 128]) -> Result<(), BlockFault> {
+        let place = layout::place(&self.plan, at).ok_or(BlockRefusal::NoSuchBlock.at(at))?;
+        self.store.get(place, out);
         Ok(())
     }
 
     // Of the lent words only those of the block change.
-    fn write(&mut self, drive: u32, block: u32, words: &[u32; 128]) -> Result<(), BlockFault>
-        ensures answer { result ≡ write_answer (dense self.old.plan.sizes self.old.store.words.now) drive block }
-        ensures after { dense self.new.plan.sizes self.new.store.words.now ≡ after_write (dense self.old.plan.sizes self.old.store.words.now) drive block words.now }
-        ensures words { self.new.store.words.now ≡ dense_words self.old.plan.sizes self.old.store.words.now drive block words.now }
+    fn write(&mut self, at: BlockAddress, words: &[u32; 128]) -> Result<(), BlockFault>
+        ensures answer { result ≡ write_answer (dense self.old.plan.sizes self.old.store.words.now) at.drive at.block }
+        ensures after { dense self.new.plan.sizes self.new.store.words.now ≡ after_write (dense self.old.plan.sizes self.old.store.words.now) at.drive at.block words.now }
+        ensures words { self.new.store.words.now ≡ dense_words self.old.plan.sizes self.old.store.words.now at.drive at.block words.now }
         ensures lent { self.new.store.words.ghost_name ≡ self.old.store.words.ghost_name }
     {
-        let Some(at) = layout::place(&self.plan, drive, block) else {
-            return Err(BlockFault::no_such(drive, block));
-        };
-        self.store.put(at, words);
+        let place = layout::place(&self.plan, at).ok_or(BlockRefusal::NoSuchBlock.at(at))?;
+        self.store.put(place, words);
         Ok(())
     }
 }

@@ -1,12 +1,12 @@
-ghost use Rattle.makes.specs.Slot.{find as the_find, Found, first_idle, idle as the_idle, tells as the_tells, count_idle};
+ghost use Rattle.makes.specs.Slot.{count_idle, find as the_find, first_idle, idle as the_idle, tells as the_tells};
 ghost use Rattle.std.specs.Prelude.{◌≡◌};
 
-// A place for a block of a sparse shelf: whether it is used, and then for which block.
-#[derive(Clone, Copy, Debug)]
+use shelf::address::BlockAddress;
+
+// A place for a block of a sparse shelf: the block that it is used for, if it is used.
+#[derive(Clone, Copy, Debug, PartialEq, Eq)]
 pub struct Slot {
-    pub drive: u32,
-    pub block: u32,
-    pub used: bool,
+    pub held: Option<BlockAddress>,
 }
 
 impl Slot {
@@ -14,54 +14,34 @@ impl Slot {
     pub fn idle() -> Slot
         ensures { result ≡ the_idle }
     {
-        Slot {
-            drive: 0,
-            block: 0,
-            used: false,
-        }
+        Slot { held: None }
     }
 
     // Whether it is used for the block.
-    pub(crate) fn tells(&self, drive: u32, block: u32) -> bool
-        ensures { result ≡ the_tells self.now drive block }
+    pub(crate) fn tells(&self, at: BlockAddress) -> bool
+        ensures { result ≡ the_tells self.now at.drive at.block }
     {
-        self.used && self.drive == drive && self.block == block
+        self.held == Some(at)
     }
 }
 
 // The first slot that is used for the block.
-pub(crate) fn find(slots: &[Slot], drive: u32, block: u32) -> Option<usize>
-    ensures { Found slots.now (the_find slots.now drive block) result }
+pub(crate) fn find(slots: &[Slot], at: BlockAddress) -> Option<usize>
+    ensures { result ≡ the_find slots.now at.drive at.block }
 {
-    for i in 0..slots.len() {
-        if slots[i].tells(drive, block) {
-            return Some(i);
-        }
-    }
-    None
+    slots.iter().position(|slot| slot.tells(at))
 }
 
 // The first slot that is not used.
 pub(crate) fn first_idle(slots: &[Slot]) -> Option<usize>
-    ensures { Found slots.now (first_idle slots.now) result }
+    ensures { result ≡ first_idle slots.now }
 {
-    for i in 0..slots.len() {
-        if !slots[i].used {
-            return Some(i);
-        }
-    }
-    None
+    slots.iter().position(|slot| slot.held.is_none())
 }
 
 // How many slots are not used.
 pub(crate) fn count_idle(slots: &[Slot]) -> usize
     ensures { result ≡ count_idle slots.now }
 {
-    let mut n = 0;
-    for slot in slots {
-        if !slot.used {
-            n += 1;
-        }
-    }
-    n
+    slots.iter().filter(|slot| slot.held.is_none()).count()
 }

@@ -1,5 +1,5 @@
-ghost use Rattle.std.specs.Prelude.{◌≡◌, ℕ, ◌*◌, ◌^◌, ◌<◌, ◌≤◌, true, length, replicate, slice_index};
-ghost use Rattle.makes.specs.Slot.{Apart, find as the_find, Found, first_idle, idle};
+ghost use Rattle.std.specs.Prelude.{◌≡◌, ℕ, ◌*◌, ◌<◌, ◌≤◌, true, length, replicate};
+ghost use Rattle.makes.specs.Slot.{Apart, find as the_find, idle};
 ghost use Rattle.makes.specs.Sparse.{claim as the_claim, claimed, sparse, sparse_check, sparse_made, sparse_slots, sparse_words};
 ghost use Rattle.shelf.specs.Meaning.{after_write, write_answer};
 ghost use Rattle.shelf.specs.Plan.{size_of, within};
@@ -7,12 +7,14 @@ ghost use Rattle.shelf.specs.Plan.{size_of, within};
 use crate::slot;
 use crate::slot::Slot;
 use crate::store::Store;
+use shelf::address::BlockAddress;
 use shelf::make;
 use shelf::make::Shelf;
 use shelf::plan::ClosedPlan;
-use shelf::refusal::{BlockFault, ShelfRefusal};
+use shelf::refusal::{BlockFault, BlockRefusal, ShelfRefusal};
 
 // A shelf that holds the blocks that were written. Each has a slot, with 128 words that are lent.
+// Slots and words are two rows beside one another, since each is lent by itself.
 #[derive(Drop)]
 pub struct Sparse<'a> {
     plan: ClosedPlan,
@@ -21,7 +23,6 @@ pub struct Sparse<'a> {
     ghost few: { within 4096 plan.sizes ≡ true },
     ghost apart: { Apart slots.now },
     ghost room: { (d b : ℕ) → b < size_of plan.sizes d → 128 * length slots.now ≤ length store.words.now },
-    ghost fit: { (k : ℕ) → slice_index store.words.now k < 2 ^ 32 },
 }
 
 // Whether a sparse shelf can be made of a plan, so many slots and so many words.
@@ -36,7 +37,10 @@ pub fn check(plan: &ClosedPlan, slots: usize, words: usize) -> Result<(), ShelfR
 }
 
 impl<'a> Shelf for Sparse<'a> {
-    ghost use Rattle.makes.specs.SparseLaws.{has_nothing, has_words, is_bounded, is_offered, only_eight};
+    ghost use Rattle.makes.specs.SparseLaws.{has_nothing, has_words, is_bounded};
+    ghost use Rattle.shelf.proofs.Drives.{eight_drives};
+    ghost use Rattle.std.proofs.Common.{refl};
+    ghost use Rattle.std.proofs.lemmas.Bool.{leb-true};
 
     const LONGEST: u32 = 4096;
 
@@ -44,11 +48,11 @@ impl<'a> Shelf for Sparse<'a> {
 
     ghost most = { 4096 };
 
-    ghost offered = { is_offered };
+    ghost offered = { leb-true 4096 65536 refl };
 
     ghost bounded = { is_bounded };
 
-    ghost drives = { only_eight };
+    ghost drives = { λ s d h. eight_drives s.plan.sizes d h };
 
     ghost blocks = { has_words };
 
@@ -60,6 +64,7 @@ impl<'a> Shelf for Sparse<'a> {
         Self::LONGEST
     }
 
+    // The plan's, as in the other make. A body for all makes would want a plan of each.
     fn size(&self, drive: u32) -> u32 {
         self.plan.size(drive)
     }
@@ -68,36 +73,35 @@ impl<'a> Shelf for Sparse<'a> {
         slot::count_idle(self.slots)
     }
 
-    fn holds(&self, drive: u32, block: u32) -> bool {
-        block < self.plan.size(drive) && self.slot_of(drive, block).is_some()
+    fn holds(&self, at: BlockAddress) -> bool {
+        self.plan.has(at) && self.slot_of(at).is_some()
     }
 
-    fn read(&self, drive: u32, block: u32, out: &mut [u32; 128]) -> Result<(), BlockFault> {
-        if block >= self.plan.size(drive) {
-            return Err(BlockFault::no_such(drive, block));
+    // The test that the block is there stands here and in `write`: a helper's contract would be longer.
+    fn read(&self, at: BlockAddress, out: &mut [u32; 128]) -> Result<(), BlockFault> {
+        if !self.plan.has(at) {
+            return Err(BlockRefusal::NoSuchBlock.at(at));
         }
-        match self.slot_of(drive, block) {
-            Some(i) => self.store.get(i, out),
+        match self.slot_of(at) {
+            Some(slot) => self.store.get(slot, out),
             None => out.fill(0),
         }
         Ok(())
     }
 
     // Of the lent slots and words only those change that the block has then.
-    fn write(&mut self, drive: u32, block: u32, words: &[u32; 128]) -> Result<(), BlockFault>
-        ensures answer { result ≡ write_answer (sparse self.old.plan.sizes self.old.slots.now self.old.store.words.now) drive block }
-        ensures after { sparse self.new.plan.sizes self.new.slots.now self.new.store.words.now ≡ after_write (sparse self.old.plan.sizes self.old.slots.now self.old.store.words.now) drive block words.now }
-        ensures slots { self.new.slots.now ≡ sparse_slots self.old.plan.sizes self.old.slots.now drive block }
-        ensures words { self.new.store.words.now ≡ sparse_words self.old.plan.sizes self.old.slots.now self.old.store.words.now drive block words.now }
+    fn write(&mut self, at: BlockAddress, words: &[u32; 128]) -> Result<(), BlockFault>
+        ensures answer { result ≡ write_answer (sparse self.old.plan.sizes self.old.slots.now self.old.store.words.now) at.drive at.block }
+        ensures after { sparse self.new.plan.sizes self.new.slots.now self.new.store.words.now ≡ after_write (sparse self.old.plan.sizes self.old.slots.now self.old.store.words.now) at.drive at.block words.now }
+        ensures slots { self.new.slots.now ≡ sparse_slots self.old.plan.sizes self.old.slots.now at.drive at.block }
+        ensures words { self.new.store.words.now ≡ sparse_words self.old.plan.sizes self.old.slots.now self.old.store.words.now at.drive at.block words.now }
         ensures lent { (self.new.slots.ghost_name ≡ self.old.slots.ghost_name) × (self.new.store.words.ghost_name ≡ self.old.store.words.ghost_name) }
     {
-        if block >= self.plan.size(drive) {
-            return Err(BlockFault::no_such(drive, block));
+        if !self.plan.has(at) {
+            return Err(BlockRefusal::NoSuchBlock.at(at));
         }
-        let Some(i) = self.claim(drive, block) else {
-            return Err(BlockFault::short(drive, block));
-        };
-        self.store.put(i, words);
+        let slot = self.claim(at).ok_or(BlockRefusal::RunsShort.at(at))?;
+        self.store.put(slot, words);
         Ok(())
     }
 }
@@ -121,39 +125,30 @@ impl<'a> Sparse<'a> {
     }
 
     // The slot of a block, if it has one.
-    fn slot_of(&self, drive: u32, block: u32) -> Option<usize>
-        ensures { Found self.now.slots.now (the_find self.now.slots.now drive block) result }
+    fn slot_of(&self, at: BlockAddress) -> Option<usize>
+        ensures { result ≡ the_find self.now.slots.now at.drive at.block }
     {
-        slot::find(self.slots, drive, block)
+        slot::find(self.slots, at)
     }
 
-    // A slot that is not used, if there is one.
-    fn idle_slot(&self) -> Option<usize>
-        ensures { Found self.now.slots.now (first_idle self.now.slots.now) result }
+    // The slot that a write of the block goes to: its own, or else one that is not used, if there
+    // is one.
+    fn slot_for(&self, at: BlockAddress) -> Option<usize>
+        ensures { result ≡ the_claim self.now.slots.now at.drive at.block }
     {
-        slot::first_idle(self.slots)
+        self.slot_of(at).or_else(|| slot::first_idle(self.slots))
     }
 
-    // The slot that a write of the block goes to, which is used for it then: its own, or else one
-    // that was not used, if there is one.
-    fn claim(&mut self, drive: u32, block: u32) -> Option<usize>
+    // Uses the slot that a write of the block goes to for the block, and answers which it is.
+    fn claim(&mut self, at: BlockAddress) -> Option<usize>
         ensures plan { self.new.plan ≡ self.old.plan }
         ensures words { self.new.store.words.now ≡ self.old.store.words.now }
         ensures lent { (self.new.slots.ghost_name ≡ self.old.slots.ghost_name) × (self.new.store.words.ghost_name ≡ self.old.store.words.ghost_name) }
-        ensures answer { Found self.old.slots.now (the_claim self.old.slots.now drive block) result }
-        ensures slots { self.new.slots.now ≡ claimed self.old.slots.now drive block }
+        ensures answer { result ≡ the_claim self.old.slots.now at.drive at.block }
+        ensures slots { self.new.slots.now ≡ claimed self.old.slots.now at.drive at.block }
     {
-        if let Some(i) = self.slot_of(drive, block) {
-            return Some(i);
-        }
-        let Some(i) = self.idle_slot() else {
-            return None;
-        };
-        self.slots[i] = Slot {
-            drive,
-            block,
-            used: true,
-        };
-        Some(i)
+        let slot = self.slot_for(at)?;
+        self.slots[slot] = Slot { held: Some(at) };
+        Some(slot)
     }
 }

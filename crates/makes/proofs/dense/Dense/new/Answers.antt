@@ -8,13 +8,8 @@ invariant_of-result c =
     let room = dense_room c.args.plan.now.sizes (length c.args.words.now) c.check-checked.result c.kept_plan.result.sizes c.check-checked.ensures c.kept_plan.ensures in
     record {
       enough = subst (λ xs. 128 * sum c.kept_plan.result.sizes ≤ length xs) (sym c.new.ensures.same) room;
-      fit = c.new.ensures.fit;
     }
 
-pub returns : goal.returns
-returns c =
-    record {
-      made = ap (dense c.kept_plan.result.sizes) c.new.ensures.same ∙ dense_makes c.args.plan.now.sizes c.args.words.now c.check-checked.result c.kept_plan.result.sizes c.check-checked.ensures c.kept_plan.ensures;
-      same = c.new.ensures.same;
-      lent = c.new.ensures.lent;
-    }
+pub returns-clause-made : goal.returns-clause-made
+returns-clause-made c =
+    ap (dense c.kept_plan.result.sizes) c.new.ensures.same ∙ dense_makes c.args.plan.now.sizes c.args.words.now c.check-checked.result c.kept_plan.result.sizes c.check-checked.ensures c.kept_plan.ensures

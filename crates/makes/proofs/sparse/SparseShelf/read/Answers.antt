@@ -1,22 +1,12 @@
-use Rattle.std.proofs.Common.{◌<◌, arith, rules}
-use Rattle.makes.proofs.Sparsely.{read_held}
+use Rattle.std.proofs.Common.{◌<◌, arith, sym, ◌∙◌}
+use Rattle.makes.proofs.Slots.{found_is}
 use Rattle.makes.proofs.sparse.SparseShelf.read.Goals as goal
 use Rattle.shelf.specs.Plan.{size_of}
+use borrow.Author.Tests.{ltb-true}
 
 pub get-requires : goal.get-requires
 get-requires c =
-    let p = c.in-Some.ensures in
-    let h : c.args.block < size_of c.args.self.now.plan.sizes c.args.drive = omega arith in
-    let r = c.args.self.now.room c.args.drive c.args.block h in
+    let h : c.args.at.block < size_of c.args.self.now.plan.sizes c.args.at.drive = ltb-true _ _ (sym c.has.ensures ∙ c.if-not-has.false) in
+    let r = c.args.self.now.room c.args.at.drive c.args.at.block h in
+    let f = found_is c.args.self.now.slots.now c.args.at.drive c.args.at.block c.in-Some.slot (sym c.in-Some.ensures) in
     omega arith
-
-pub returns-in-Some : goal.returns-in-Some
-returns-in-Some c =
-    let p = c.in-Some.ensures in
-    let h : c.args.block < size_of c.args.self.now.plan.sizes c.args.drive = omega arith in
-    let r = read_held c.args.self.now.plan.sizes c.args.self.now.slots.now c.args.self.now.store.words.now c.args.out.now c.get.new.out c.args.drive c.args.block c.in-Some.i
-    h p.0 p.1 c.get.ensures in
-    record { answer = r.0; after = r.1 }
-
-pub returns-in-None : goal.returns-in-None
-returns-in-None c = search rules

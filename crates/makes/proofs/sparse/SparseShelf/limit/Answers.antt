@@ -1,5 +1,0 @@
-use Rattle.makes.proofs.sparse.SparseShelf.limit.Goals as goal
-use Rattle.std.proofs.Common.{refl}
-
-pub returns : goal.returns
-returns c = refl
