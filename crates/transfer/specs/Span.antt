@@ -1,7 +1,7 @@
 -- Where consecutive virtual words lie in memory, and how they are taken and put.
-use Rattle.std.specs.Prelude.{ℕ, zero, suc, ◌+◌, ◌-◌, ◌%◌, ◌<◌, Bool, true, cond, ◌&&◌, List, [], ◌∷◌, map, nat_lt, slice_index, slice_set}
+use Rattle.std.specs.Prelude.{ℕ, ◌+◌, ◌-◌, ◌%◌, ◌<◌, Bool, cond, List, [], ◌∷◌, map, nat_lt, slice_index, slice_set}
 use Rattle.transfer.specs.declared.span.Span.{Span}
-use Rattle.std.specs.List.{range_with_len}
+use Rattle.std.specs.List.{list_all, range_with_len}
 
 -- Word k lies behind the first word as long as that is in its page, and then from the base of the
 -- next page on.
@@ -10,9 +10,8 @@ place s k =
     cond (nat_lt (s.first % 2048 + k) 2048) (s.first + k) (s.second + (s.first % 2048 + k - 2048))
 
 -- The first n words lie in a memory of so many words.
-unfoldable pub reaches : Span → ℕ → ℕ → Bool
-reaches s len zero = true
-reaches s len (suc n) = reaches s len n && nat_lt (place s n) len
+abbrev pub reaches : Span → ℕ → ℕ → Bool
+reaches s len n = list_all (λ k. nat_lt (place s k) len) (range_with_len 0 n)
 
 -- The same, as a fact of each word.
 abbrev pub Reaches : Span → ℕ → ℕ → Type 0

@@ -29,22 +29,22 @@ moved answers after (suc n) b k x = next (answers x b) x (moved answers after n 
 abbrev pub transferred : {X : Type 0} → (X → ℕ → Result Unit BlockFault) → (X → ℕ → ℕ → X) → Extent → ℕ → Span → X → Moved X
 transferred answers after e len s x =
     cond (reaches s len (128 * e.count))
-    (moved answers after e.count e.first 0 x)
+    (moved answers after e.count e.first.block 0 x)
     (record { answer = Err Unreachable; left = x })
 
 -- A block that is read in its turn: the shelf stays, its words go to their places.
 abbrev pub answers_read : Meaning → Extent → List ℕ → ℕ → Result Unit BlockFault
-answers_read m e memory b = block.read_answer m e.drive b
+answers_read m e memory b = block.read_answer m e.first.drive b
 
 abbrev pub left_read : Meaning → Extent → Span → List ℕ → ℕ → ℕ → List ℕ
-left_read m e s memory b k = scattered memory s k (m.block e.drive b)
+left_read m e s memory b k = scattered memory s k (m.block e.first.drive b)
 
 -- A block that is written in its turn: the memory stays, it takes its words.
 abbrev pub answers_write : Extent → Meaning → ℕ → Result Unit BlockFault
-answers_write e m b = block.write_answer m e.drive b
+answers_write e m b = block.write_answer m e.first.drive b
 
 abbrev pub left_write : Extent → List ℕ → Span → Meaning → ℕ → ℕ → Meaning
-left_write e memory s m b k = block.after_write m e.drive b (gathered memory s k 128)
+left_write e memory s m b k = block.after_write m e.first.drive b (gathered memory s k 128)
 
 -- Blocks read into memory.
 abbrev pub reading : Meaning → Extent → List ℕ → Span → Moved (List ℕ)

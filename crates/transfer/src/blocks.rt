@@ -1,19 +1,33 @@
 ghost use Rattle.transfer.specs.Transfer.{after_read, after_write, read_answer, write_answer};
-ghost use Rattle.std.specs.Prelude.{◌≡◌};
+ghost use Rattle.std.specs.Prelude.{◌≡◌, ◌+◌, ◌^◌, ◌<◌};
 
 use crate::fault::TransferFault;
-use crate::span::{Span, gather, scatter};
+use crate::span::Span;
+use shelf::address::BlockAddress;
 use shelf::make::Shelf;
 
-// Consecutive blocks of a drive.
-#[derive(Clone, Copy, Debug)]
+// Consecutive blocks of a drive: the first, and how many.
+#[derive(Clone, Copy, Debug, PartialEq, Eq)]
 pub struct Extent {
-    pub drive: u32,
-    pub first: u32,
+    pub first: BlockAddress,
     pub count: u32,
 }
 
-// Reads an extent into the words of a span, block by block, up to the first that is refused.
+impl Extent {
+    // Block i of the extent, counted from 0.
+    fn block(self, i: u32) -> BlockAddress
+        requires { self.first.block + i < 2 ^ 32 }
+        ensures { result ≡ record { drive = self.first.drive; block = self.first.block + i } }
+    {
+        BlockAddress {
+            block: self.first.block + i,
+            ..self.first
+        }
+    }
+}
+
+// Reads an extent into the words of a span, block by block, up to the first that is refused. Memory
+// and span are two parameters, here and below, since the memory is lent in two ways.
 pub fn read_blocks<S: Shelf>(
     shelf: &S,
     extent: Extent,
@@ -23,18 +37,19 @@ pub fn read_blocks<S: Shelf>(
     ensures answer { result ≡ read_answer (S.Shelf.meaning shelf.now) extent memory.old span }
     ensures after { memory.new ≡ after_read (S.Shelf.meaning shelf.now) extent memory.old span }
 {
-    if !span.reaches(128 * extent.count as usize, memory.len()) {
+    if !span.reaches(extent.count, memory.len()) {
         return Err(TransferFault::Unreachable);
     }
     let mut block = [0; 128];
     for i in 0..extent.count {
-        shelf.read(extent.drive, extent.first + i, &mut block)?;
-        scatter(memory, span, 128 * i as usize, &block);
+        shelf.read(extent.block(i), &mut block)?;
+        span.scatter(memory, i, &block);
     }
     Ok(())
 }
 
-// Writes an extent from the words of a span, block by block, up to the first that is refused.
+// Writes an extent from the words of a span, block by block, up to the first that is refused. It is
+// no one function with `read_blocks`: there the memory is lent to be written, and here the shelf.
 pub fn write_blocks<S: Shelf>(
     shelf: &mut S,
     extent: Extent,
@@ -44,12 +59,12 @@ pub fn write_blocks<S: Shelf>(
     ensures answer { result ≡ write_answer (S.Shelf.meaning shelf.old) extent memory.now span }
     ensures after { S.Shelf.meaning shelf.new ≡ after_write (S.Shelf.meaning shelf.old) extent memory.now span }
 {
-    if !span.reaches(128 * extent.count as usize, memory.len()) {
+    if !span.reaches(extent.count, memory.len()) {
         return Err(TransferFault::Unreachable);
     }
     for i in 0..extent.count {
-        let block = gather(memory, span, 128 * i as usize);
-        shelf.write(extent.drive, extent.first + i, &block)?;
+        let block = span.gather(memory, i);
+        shelf.write(extent.block(i), &block)?;
     }
     Ok(())
 }

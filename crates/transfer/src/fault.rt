@@ -5,7 +5,7 @@ use shelf::refusal::BlockFault;
 
 // Why a transfer stopped. It has no numbers of its own: who asked for the transfer gives each case
 // the number that the case has there.
-#[derive(Clone, Copy, Debug)]
+#[derive(Clone, Copy, Debug, PartialEq, Eq)]
 pub enum TransferFault {
     // a word of the span lies beyond the memory: nothing has moved
     Unreachable,
@@ -13,6 +13,7 @@ pub enum TransferFault {
     Refused(BlockFault),
 }
 
+// By hand, since the clauses of a transfer name the fault that `?` makes.
 impl From<BlockFault> for TransferFault {
     ghost from_gives = { λ x y. y ≡ Refused x };
 

@@ -1,5 +1,7 @@
-ghost use Rattle.std.specs.Prelude.{◌≡◌, ◌+◌, ◌^◌, ◌<◌, length};
+ghost use Rattle.std.specs.Prelude.{◌≡◌, ◌+◌, ◌*◌, ◌^◌, ◌<◌, length};
 ghost use Rattle.transfer.specs.Span.{gathered, place as the_place, reaches as the_reaches, Reaches, scattered};
+
+use std::array;
 
 // The words of a page.
 const PAGE: usize = 2048;
@@ -9,7 +11,7 @@ const PAGE: usize = 2048;
 // count if there are none. Pages begin at multiples of 2,048, in memory as among virtual addresses,
 // so the first word's place tells how many words are left in its page. Up to 2,048 words lie in at
 // most two pages.
-#[derive(Clone, Copy, Debug)]
+#[derive(Clone, Copy, Debug, PartialEq, Eq)]
 pub struct Span {
     pub first: u32,
     pub second: u32,
@@ -17,7 +19,7 @@ pub struct Span {
 
 impl Span {
     // Where word k lies.
-    pub(crate) fn place(self, k: usize) -> usize
+    fn place(self, k: usize) -> usize
         requires { k < 2 ^ 40 }
         ensures { result ≡ the_place self k }
     {
@@ -29,40 +31,29 @@ impl Span {
         }
     }
 
-    // Whether the first n words lie in a memory of so many words.
-    pub(crate) fn reaches(self, n: usize, len: usize) -> bool
-        requires { n < 2 ^ 40 }
-        ensures { result ≡ the_reaches self len n }
+    // Whether the words of so many blocks lie in a memory of so many words.
+    pub(crate) fn reaches(self, blocks: u32, len: usize) -> bool
+        ensures { result ≡ the_reaches self len (128 * blocks) }
     {
-        for k in 0..n {
-            if self.place(k) >= len {
-                return false;
-            }
+        (0..128 * blocks as usize).all(|k| self.place(k) < len)
+    }
+
+    // The words of the span's block i, counted from 0.
+    pub(crate) fn gather(self, memory: &[u32], i: u32) -> [u32; 128]
+        requires { Reaches self (length memory.now) (128 * i + 128) }
+        ensures { result ≡ gathered memory.now self (128 * i) 128 }
+    {
+        let k = 128 * i as usize;
+        array::from_fn(|j| memory[self.place(k + j)])
+    }
+
+    // Puts a block's words to the places of the span's block i, counted from 0.
+    pub(crate) fn scatter(self, memory: &mut [u32], i: u32, block: &[u32; 128])
+        requires { Reaches self (length memory.old) (128 * i + 128) }
+        ensures { memory.new ≡ scattered memory.old self (128 * i) block.now }
+    {
+        for (j, word) in block.iter().enumerate() {
+            memory[self.place(128 * i as usize + j)] = *word;
         }
-        true
-    }
-}
-
-// The 128 words of a span from word k on.
-pub(crate) fn gather(memory: &[u32], span: Span, k: usize) -> [u32; 128]
-    requires { (k + 128 < 2 ^ 40) × (Reaches span (length memory.now) (k + 128)) }
-    ensures value { result ≡ gathered memory.now span k 128 }
-    ensures len { length result ≡ 128 }
-{
-    let mut block = [0; 128];
-    for i in 0..128 {
-        block[i] = memory[span.place(k + i)];
-    }
-    block
-}
-
-// Puts 128 words to the places of a span from word k on.
-pub(crate) fn scatter(memory: &mut [u32], span: Span, k: usize, block: &[u32; 128])
-    requires { (k + 128 < 2 ^ 40) × (Reaches span (length memory.old) (k + 128)) }
-    ensures value { memory.new ≡ scattered memory.old span k block.now }
-    ensures len { length memory.new ≡ length memory.old }
-{
-    for i in 0..128 {
-        memory[span.place(k + i)] = block[i];
     }
 }
