@@ -1,3 +1,4 @@
+use crate::disc::Make;
 use crate::options::number;
 
 // What the arguments ask for.
@@ -6,8 +7,7 @@ pub(crate) enum Command<'a> {
     New(&'a str),
     Show(&'a str),
     Copy(&'a str, &'a str),
-    Dense(&'a [String]),
-    Sparse(u32, &'a [String]),
+    Disc(Make, &'a [String]),
     Help,
 }
 
@@ -29,28 +29,25 @@ fn card_command<'a>(words: &'a [String]) -> Option<Command<'a>> {
 
 // What the words behind `disc` ask for.
 fn disc_command<'a>(words: &'a [String]) -> Option<Command<'a>> {
-    match words {
-        [] => None,
-        [make, rest @ ..] => match make.as_str() {
-            "dense" => Some(Command::Dense(rest)),
-            "sparse" => match rest {
-                [] => None,
-                [slots, rest @ ..] => Some(Command::Sparse(number(slots.as_str())?, rest)),
-            },
-            _ => None,
-        },
+    let (make, rest) = words.split_first()?;
+    match make.as_str() {
+        "dense" => Some(Command::Disc(Make::Dense, rest)),
+        "sparse" => {
+            let (slots, rest) = rest.split_first()?;
+            let slots = number(slots.as_str())?;
+            Some(Command::Disc(Make::Sparse(slots), rest))
+        }
+        _ => None,
     }
 }
 
 // The command that the arguments spell, if they spell one.
 pub(crate) fn parse<'a>(args: &'a [String]) -> Option<Command<'a>> {
-    match args {
-        [] => None,
-        [area, words @ ..] => match area.as_str() {
-            "card" => card_command(words),
-            "disc" => disc_command(words),
-            "help" | "--help" => Some(Command::Help),
-            _ => None,
-        },
+    let (area, words) = args.split_first()?;
+    match area.as_str() {
+        "card" => card_command(words),
+        "disc" => disc_command(words),
+        "help" | "--help" => Some(Command::Help),
+        _ => None,
     }
 }

@@ -1,116 +1,36 @@
-use card::refusal::{CardFault, CardRefusal, WriterRefusal};
-use std::alloc::{AllocError, AllocFailed};
-use std::{fmt, io};
+use card::refusal::{CardRefusal, WriterRefusal};
+use std::alloc::AllocError;
+use std::io;
+use thiserror::Error;
 
 // Why a command is not done.
-#[derive(Drop)]
-pub(crate) enum Failure {
+#[derive(Debug, Drop, Error)]
+pub(crate) enum Failure<'a> {
     // the arguments spell no command
+    #[error("the arguments are no command; try `een421 help`")]
     Usage,
     // a word is no option of the command
-    NoOption(String),
+    #[error("`disc` cannot take `{name} {value}`: it is no option, or its value cannot be read; try `een421 help`")]
+    NoOption { name: &'a str, value: &'a str },
     // the file cannot be read
-    Unreadable(String, io::Error),
+    #[error("cannot read {0}: {1}; check its name, or make a card with `een421 card new FILE`")]
+    Unreadable(&'a str, io::Error),
     // the file cannot be written
-    Unwritable(String, io::Error),
+    #[error("cannot write {0}: {1}; check that its folder is there and may be written")]
+    Unwritable(&'a str, io::Error),
     // the file is no card
-    NoCard(String, CardRefusal),
+    #[error("{file} is no card: refusal {} at bit {}: {}; check that the file is whole and unchanged", u8::from(.refusal.fault), .refusal.bit, .refusal.fault)]
+    NoCard { file: &'a str, refusal: CardRefusal },
     // the card cannot be written
-    Unfit(WriterRefusal),
+    #[error("the card cannot be written: refusal {}: {}", u8::from(*.0), .0)]
+    Unfit(#[from] WriterRefusal),
     // the file does not hold what was written to it
-    Changed(String),
+    #[error("{0} does not hold what was written to it; check the disc, and write it again")]
+    Changed(&'a str),
     // the arguments cannot be read, or the output cannot be written
-    Console(io::Error),
-    Memory,
-}
-
-// What a refusal of the card reader means.
-fn card_meaning(fault: CardFault) -> &'static str {
-    match fault {
-        CardFault::BytesEnd => "the bytes end within a field",
-        CardFault::WrongEdition => "the edition is not 1",
-        CardFault::CountOver => "a count of keys or tray characters is over 64",
-        CardFault::BadPadding => "the padding is not zero",
-        CardFault::LeftOver => "bytes are left over behind the card",
-    }
-}
-
-// What a refusal of the bit writer means.
-fn writer_meaning(refusal: WriterRefusal) -> &'static str {
-    match refusal {
-        WriterRefusal::NoPlace => "there is no place for a full byte",
-        WriterRefusal::BadField => "a value does not fit its width",
-    }
-}
-
-impl fmt::Display for Failure {
-    fn fmt<W: fmt::Write>(&self, f: &mut fmt::Formatter<W>) -> fmt::Result {
-        match self {
-            Failure::Usage => write!(f, "the arguments are no command; try `een421 help`"),
-            Failure::NoOption(text) => {
-                write!(
-                    f,
-                    "`disc` cannot take `{text}`: it is no option, or its value cannot be read; try `een421 help`"
-                )
-            }
-            Failure::Unreadable(file, error) => {
-                write!(
-                    f,
-                    "cannot read {file}: {error}; check its name, or make a card with `een421 card new FILE`"
-                )
-            }
-            Failure::Unwritable(file, error) => {
-                write!(
-                    f,
-                    "cannot write {file}: {error}; check that its folder is there and may be written"
-                )
-            }
-            Failure::NoCard(file, refusal) => {
-                let number = refusal.fault.number();
-                let bit = refusal.bit;
-                let what = card_meaning(refusal.fault);
-                write!(
-                    f,
-                    "{file} is no card: refusal {number} at bit {bit}: {what}; check that the file is whole and unchanged"
-                )
-            }
-            Failure::Unfit(refusal) => {
-                let number = refusal.number();
-                let what = writer_meaning(*refusal);
-                write!(f, "the card cannot be written: refusal {number}: {what}")
-            }
-            Failure::Changed(file) => {
-                write!(
-                    f,
-                    "{file} does not hold what was written to it; check the disc, and write it again"
-                )
-            }
-            Failure::Console(error) => write!(f, "cannot use the terminal: {error}"),
-            Failure::Memory => write!(f, "there is not enough memory"),
-        }
-    }
-}
-
-impl From<AllocError> for Failure {
-    fn from(_error: AllocError) -> Failure {
-        Failure::Memory
-    }
-}
-
-impl<T: Drop> From<AllocFailed<T>> for Failure {
-    fn from(_error: AllocFailed<T>) -> Failure {
-        Failure::Memory
-    }
-}
-
-impl From<io::Error> for Failure {
-    fn from(error: io::Error) -> Failure {
-        Failure::Console(error)
-    }
-}
-
-impl From<WriterRefusal> for Failure {
-    fn from(refusal: WriterRefusal) -> Failure {
-        Failure::Unfit(refusal)
-    }
+    #[error("cannot use the terminal: {0}")]
+    Console(#[from] io::Error),
+    // there is no memory for a list or for the words that are lent
+    #[error("there is not enough memory")]
+    Memory(#[from(alloc)] AllocError),
 }

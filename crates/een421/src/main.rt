@@ -13,6 +13,7 @@ use failure::Failure;
 use std::env;
 use std::process::ExitCode;
 
+// The commands and their options.
 const USAGE: &str = "usage:
   een421 card new FILE        write a fresh machine's card to FILE, and check it
   een421 card show FILE       print the machine record of the card in FILE
@@ -27,29 +28,37 @@ options of disc:
   --read D:B                  read block B of drive D
   --copy D:B+N=E:C            copy N blocks of drive D, from B on, to drive E, from C on";
 
-fn run(rt: &HostRuntime) -> Result<(), Failure> {
-    let args: Vec<String> = env::args(rt)?.skip(1).collect(rt.alloc())?;
-    match command::parse(args.as_slice()) {
-        Some(Command::New(file)) => cards::new(rt, file),
-        Some(Command::Show(file)) => cards::show(rt, file),
-        Some(Command::Copy(from, to)) => cards::copy(rt, from, to),
-        Some(Command::Dense(args)) => disc::dense(rt, args),
-        Some(Command::Sparse(slots, args)) => disc::sparse(rt, slots, args),
-        Some(Command::Help) => Ok(rt.println(USAGE)?),
-        None => Err(Failure::Usage),
+// The arguments behind the program's name.
+fn arguments(rt: &HostRuntime) -> Result<Vec<String>, Failure<'static>> {
+    Ok(env::args(rt)?.skip(1).collect(rt.alloc())?)
+}
+
+// Does what the arguments ask for.
+fn run<'a>(rt: &HostRuntime, args: &'a [String]) -> Result<(), Failure<'a>> {
+    match command::parse(args).ok_or(Failure::Usage)? {
+        Command::New(file) => cards::new(rt, file),
+        Command::Show(file) => cards::show(rt, file),
+        Command::Copy(from, to) => cards::copy(rt, from, to),
+        Command::Disc(make, args) => disc::run(rt, make, args),
+        Command::Help => Ok(rt.println(USAGE)?),
     }
 }
 
+// The program's status. Where it failed, it tells why first.
+fn status(rt: &HostRuntime, done: Result<(), Failure<'_>>) -> ExitCode {
+    let Err(failure) = done else {
+        return ExitCode::SUCCESS;
+    };
+    let _ = match failure {
+        Failure::Usage => rt.eprintln(USAGE),
+        _ => eprintln!(rt; "een421: {failure}"),
+    };
+    ExitCode::FAILURE
+}
+
 fn main(rt: HostRuntime) -> ExitCode {
-    match run(&rt) {
-        Ok(()) => ExitCode::SUCCESS,
-        Err(Failure::Usage) => {
-            let _ = rt.eprintln(USAGE);
-            ExitCode::FAILURE
-        }
-        Err(failure) => {
-            let _ = eprintln!(rt; "een421: {failure}");
-            ExitCode::FAILURE
-        }
+    match arguments(&rt) {
+        Ok(args) => status(&rt, run(&rt, &args)),
+        Err(failure) => status(&rt, Err(failure)),
     }
 }

@@ -1,63 +1,87 @@
 // A machine record as people like to read it.
-use crate::failure::Failure;
 use record::machine::{Record, WORDS};
-use std::alloc::{AllocError, Global};
+use std::fmt;
 
+// The names of a record's words, in the order of its words. They stand beside the words, and in no
+// pairs with them: a record tells numbers, and the names are the program's.
 const NAMES: [&str; WORDS] = [
     "R0", "R1", "R2", "R3", "R4", "R5", "R6", "R7", "R8", "R9", "R10", "R11", "R12", "PC", "SYSSP",
     "SYSFP", "USRSP", "USRFP", "PDBR", "INTVEC", "CGBR", "CGLEN", "DEBUG", "TIMER",
 ];
 
-const FLAGS: [&str; 7] = ["R", "Z", "N", "ERR", "SYS", "IP", "VM"];
+// The bits of a flags word, from the lowest on, and their names.
+const FLAGS: [(u32, &str); 7] = [
+    (1, "R"),
+    (2, "Z"),
+    (4, "N"),
+    (8, "ERR"),
+    (16, "SYS"),
+    (32, "IP"),
+    (64, "VM"),
+];
 
 // The names of the flags that are on in a flags word.
-fn flag_names(heap: Global, word: u32) -> Result<String, AllocError> {
-    let mut names = String::new(heap);
-    let mut rest = word;
-    for name in FLAGS {
-        if rest % 2 == 1 {
-            if !names.is_empty() {
-                names.push(' ')?;
-            }
-            names.push_str(name)?;
+#[derive(Clone, Copy)]
+struct Flags(u32);
+
+impl fmt::Display for Flags {
+    fn fmt<W: fmt::Write>(&self, f: &mut fmt::Formatter<W>) -> fmt::Result {
+        let mut on = FLAGS.iter().filter(|(bit, _)| self.0 & *bit != 0);
+        if let Some((_, first)) = on.next() {
+            write!(f, "{first}")?;
         }
-        rest /= 2;
+        for (_, name) in on {
+            write!(f, " {name}")?;
+        }
+        Ok(())
     }
-    Ok(names)
 }
 
 // Bytes as text: printable characters as they are, others by their number in hex.
-fn text_of(heap: Global, bytes: &[u8]) -> Result<String, AllocError> {
-    let mut text = String::new(heap);
-    for b in bytes {
-        match *b {
-            b'"' | b'\\' => {
-                text.push('\\')?;
-                text.push(char::from(*b))?;
-            }
-            b' '..=b'~' => text.push(char::from(*b))?,
-            other => {
-                let hex = format!(in heap; "\\x{other:02x}")?;
-                text.push_str(hex.as_str())?;
+#[derive(Clone, Copy)]
+struct Quoted<'a>(&'a [u8]);
+
+impl fmt::Display for Quoted<'_> {
+    fn fmt<W: fmt::Write>(&self, f: &mut fmt::Formatter<W>) -> fmt::Result {
+        write!(f, "\"")?;
+        for byte in self.0 {
+            let shown = char::from(*byte);
+            match shown {
+                '"' | '\\' => write!(f, "\\{shown}")?,
+                ' '..='~' => write!(f, "{shown}")?,
+                _ => write!(f, "\\x{byte:02x}")?,
             }
         }
+        write!(f, "\"")
     }
-    Ok(text)
 }
 
-pub(crate) fn show_record(rt: &HostRuntime, machine: &Record) -> Result<(), Failure> {
-    let heap = rt.alloc();
-    let flags = machine.flags();
-    let names = flag_names(heap, flags)?;
-    println!(rt; "flags   {flags:08x} {names}")?;
-    for (name, word) in NAMES.iter().zip(machine.words().iter()) {
-        println!(rt; "{name:<7} {word:08x} {word:>10}")?;
+// A machine record: a line for its flags, for each word and for each queue.
+#[derive(Clone, Copy)]
+pub(crate) struct Shown<'a>(pub(crate) &'a Record);
+
+impl fmt::Display for Shown<'_> {
+    fn fmt<W: fmt::Write>(&self, f: &mut fmt::Formatter<W>) -> fmt::Result {
+        let Shown(machine) = self;
+        let flags = machine.flags();
+        let names = Flags(flags);
+        writeln!(f, "flags   {flags:08x} {names}")?;
+        for (name, word) in NAMES.iter().zip(machine.words()) {
+            writeln!(f, "{name:<7} {word:08x} {word:>10}")?;
+        }
+        let keys = machine.keys.as_slice();
+        let tray = machine.tray.as_slice();
+        writeln!(
+            f,
+            "keys    {} waiting, oldest first: {}",
+            keys.len(),
+            Quoted(keys)
+        )?;
+        writeln!(
+            f,
+            "tray    {} characters, oldest first: {}",
+            tray.len(),
+            Quoted(tray)
+        )
     }
-    let keys = text_of(heap, machine.keys.as_slice())?;
-    let tray = text_of(heap, machine.tray.as_slice())?;
-    let waiting = machine.keys.len();
-    let put = machine.tray.len();
-    println!(rt; "keys    {waiting} waiting, oldest first: \"{keys}\"")?;
-    println!(rt; "tray    {put} characters, oldest first: \"{tray}\"")?;
-    Ok(())
 }
