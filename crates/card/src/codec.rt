@@ -132,7 +132,8 @@ mod tests {
     use super::*;
     use std::test::Fail;
 
-    // What reading refuses, as its number and bit.
+    // What reading refuses, as its number and bit; zeros where it refuses nothing, since tests keep
+    // their values.
     fn refusal(bytes: &[u8]) -> (u8, usize) {
         match read_card(bytes) {
             Ok(_) => (0, 0),

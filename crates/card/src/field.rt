@@ -19,7 +19,11 @@ pub(crate) const COUNT: Width = Width { bits: 7 };
 // The width of the zeros at the end.
 pub(crate) const PADDING: Width = Width { bits: 7 };
 
-// What a card has rows of: numbers that each take a field of one width.
+// What a card has rows of: numbers that each take a field of one width. Words and characters have an
+// impl each, of one shape, since the width is the type's own; and methods of its own, since from a
+// clause nobody learns which number `Into` or `TryFrom` gives. That a number fits its width is said
+// of each call that gives or takes one: a type for a number with its width would be built at each
+// only to be taken apart.
 pub trait Field: Copy {
     // The number that a value is.
     ghost value: { Self → ℕ };

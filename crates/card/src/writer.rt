@@ -15,7 +15,7 @@ use crate::refusal::WriterRefusal;
 //
 // That a writer has a place for the bits to come (`Ready`), keeps its buffer (`same`) and moves on by
 // so many bits (`moved`) is said of each call. These are facts of a call and of no value, so no type
-// can carry them.
+// can carry them. A `Model` in place of `state` would hide which buffer a writer has.
 
 // One bit more: the eighth pending bit stores the byte.
 fn push(out: &mut [u8], at: Place, bit: u8) -> Place

@@ -1,4 +1,5 @@
-// The commands over cards in files.
+// The commands over cards in files. The handle and a file's name are two parameters, as the handle and
+// a shelf are in `disc`.
 use crate::failure::Failure;
 use crate::show::Shown;
 use card::codec::{LONGEST, copy_card, read_card, write_checked};

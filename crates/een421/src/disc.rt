@@ -60,9 +60,6 @@ impl fmt::Display for Make {
     }
 }
 
-// The handle and the shelf are two parameters of what follows. A struct of them would be no plainer:
-// it would have the loan of each, and hide which functions print.
-
 // A refusal as it is told: its number, and what it means.
 #[derive(Clone, Copy)]
 struct Refused<R>(R);
@@ -103,6 +100,9 @@ fn show_check(rt: &HostRuntime, checked: Result<(), ShelfRefusal>) -> Result<(),
     }
     Ok(())
 }
+
+// The handle and the shelf are two parameters of what follows. A struct of them would be no plainer:
+// it would have the loan of each, and hide which functions print.
 
 // The drives of a shelf, and the room that is left on each.
 fn show_room<S: Shelf>(rt: &HostRuntime, shelf: &S) -> Result<(), Failure<'static>> {

@@ -69,6 +69,8 @@ impl<'a> Shelf for Dense<'a> {
         self.plan.has(at)
     }
 
+    // The block's place, or the refusal, is found here and in `write`: the contract of a function for
+    // it would be longer than it is.
     fn read(&self, at: BlockAddress, out: &mut [u32; 128]) -> Result<(), BlockFault> {
         let place = layout::place(&self.plan, at).ok_or(BlockRefusal::NoSuchBlock.at(at))?;
         self.store.get(place, out);

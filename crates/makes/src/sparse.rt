@@ -77,7 +77,8 @@ impl<'a> Shelf for Sparse<'a> {
         self.plan.has(at) && self.slot_of(at).is_some()
     }
 
-    // The test that the block is there stands here and in `write`: a helper's contract would be longer.
+    // The test that the block is there stands here and in `write`: the contract of a function for it
+    // would be longer than it is.
     fn read(&self, at: BlockAddress, out: &mut [u32; 128]) -> Result<(), BlockFault> {
         if !self.plan.has(at) {
             return Err(BlockRefusal::NoSuchBlock.at(at));

@@ -13,7 +13,8 @@ pub enum TransferFault {
     Refused(BlockFault),
 }
 
-// By hand, since the clauses of a transfer name the fault that `?` makes.
+// By hand, since the clauses of a transfer name the fault that `?` makes, and a derived conversion
+// has no contract.
 impl From<BlockFault> for TransferFault {
     ghost from_gives = { λ x y. y ≡ Refused x };
 

@@ -33,8 +33,8 @@ fn control_of(words: &[u32; WORDS]) -> Control
     }
 }
 
-// The registers of the mode that runs, with that pair: R0 to R12, SP, FP, PC. One by one, as in
-// `words`: of parts copied into an array the proof did not close.
+// The registers of the mode that runs, with that pair: R0 to R12, SP, FP, PC. They are listed one by
+// one: of parts copied into an array the proof did not close.
 fn registers_of(w: &[u32; WORDS], pair: StackPair) -> [u32; 16]
     ensures { result ≡ registers_of w.now pair }
 {
@@ -127,7 +127,8 @@ impl Record {
         self.pair(false)
     }
 
-    // The twenty-four words in their published order.
+    // The twenty-four words in their published order. They are listed one by one: of parts copied into
+    // an array the proof did not close.
     pub fn words(&self) -> [u32; WORDS]
         ensures value { result ≡ the_words (contents self.now) }
         ensures len { length result ≡ 24 }
