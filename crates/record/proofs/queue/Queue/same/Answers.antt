@@ -1,5 +1,5 @@
-use Rattle.record.proofs.Same.{queue_parts}
+use Rattle.record.proofs.Same.{queue_decides}
 use Rattle.record.proofs.queue.Queue.same.Goals as goal
 
 pub returns : goal.returns
-returns c = queue_parts c.args.self.now c.args.other.now _ c.eq.ensures
+returns c = queue_decides c.args.self.now c.args.other.now _ c.eq.ensures
