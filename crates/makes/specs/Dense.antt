@@ -1,21 +1,21 @@
 -- The dense make: every block is held, and lies in the words drive by drive.
 use Rattle.std.specs.Prelude.{ℕ, ◌+◌, ◌*◌, cond, List, [], length, take, drop, Ok, Err, sum, Result, nat_lt}
 use Rattle.shelf.specs.Meaning.{Meaning, bare, made}
-use Rattle.shelf.specs.Plan.{size_of, start, within}
+use Rattle.shelf.specs.Plan.{plan_has, size_of, start, within}
 use Rattle.shelf.specs.declared.refusal.ShelfRefusal.{ShelfRefusal}
 use Rattle.shelf.specs.declared.refusal.ShelfRefusal.TheVariants.{DriveTooLong, UnfitMemory}
 use Rattle.std.proofs.Math.Seq.{paste}
 
 -- The words of a block, none where there is no block.
 abbrev pub dense_block : List ℕ → List ℕ → ℕ → ℕ → List ℕ
-dense_block sizes words d b = cond (nat_lt b (size_of sizes d)) (take 128 (drop (128 * (start sizes d + b)) words)) []
+dense_block sizes words d b = cond (plan_has sizes d b) (take 128 (drop (128 * (start sizes d + b)) words)) []
 
 -- What a dense shelf of these sizes over these words means.
 abbrev pub dense : List ℕ → List ℕ → Meaning
 dense sizes words = record {
   size = size_of sizes;
   block = dense_block sizes words;
-  held = λ d b. nat_lt b (size_of sizes d);
+  held = plan_has sizes;
   spare = 0;
 }
 
@@ -30,4 +30,4 @@ dense_made sizes words = made (dense_check sizes (length words)) (dense sizes wo
 
 -- The lent words after a write: those of the block are replaced, where there is such a block.
 abbrev pub dense_words : List ℕ → List ℕ → ℕ → ℕ → List ℕ → List ℕ
-dense_words sizes words d b ws = cond (nat_lt b (size_of sizes d)) (paste words (128 * (start sizes d + b)) ws 128) words
+dense_words sizes words d b ws = cond (plan_has sizes d b) (paste words (128 * (start sizes d + b)) ws 128) words

@@ -4,7 +4,7 @@ use Rattle.std.specs.Option.{option_map_or, option_or}
 use Rattle.makes.specs.Slot.{count_idle, find, first_idle, taken}
 use Rattle.makes.specs.declared.slot.Slot.{Slot}
 use Rattle.shelf.specs.Meaning.{Meaning, bare, made}
-use Rattle.shelf.specs.Plan.{size_of, within}
+use Rattle.shelf.specs.Plan.{plan_has, size_of, within}
 use Rattle.shelf.specs.declared.refusal.ShelfRefusal.{ShelfRefusal}
 use Rattle.shelf.specs.declared.refusal.ShelfRefusal.TheVariants.{DriveTooLong, UnfitMemory}
 use Rattle.std.proofs.Math.Seq.{paste}
@@ -16,14 +16,14 @@ slot_words words slot = option_map_or (λ i. take 128 (drop (128 * i) words)) sl
 -- The words of a block: those of its slot, zeros where it has none, and none where there is no
 -- block.
 abbrev pub sparse_block : List ℕ → List Slot → List ℕ → ℕ → ℕ → List ℕ
-sparse_block sizes slots words d b = cond (nat_lt b (size_of sizes d)) (slot_words words (find slots d b)) []
+sparse_block sizes slots words d b = cond (plan_has sizes d b) (slot_words words (find slots d b)) []
 
 -- What a sparse shelf of these sizes, slots and words means.
 abbrev pub sparse : List ℕ → List Slot → List ℕ → Meaning
 sparse sizes slots words = record {
   size = size_of sizes;
   block = sparse_block sizes slots words;
-  held = λ d b. nat_lt b (size_of sizes d) && is_some (find slots d b);
+  held = λ d b. plan_has sizes d b && is_some (find slots d b);
   spare = count_idle slots;
 }
 
@@ -31,7 +31,7 @@ sparse sizes slots words = record {
 abbrev pub empty : List ℕ → ℕ → Meaning
 empty sizes n = record {
   size = size_of sizes;
-  block = λ d b. cond (nat_lt b (size_of sizes d)) (replicate 128 0) [];
+  block = λ d b. cond (plan_has sizes d b) (replicate 128 0) [];
   held = λ d b. false;
   spare = n;
 }
@@ -57,9 +57,9 @@ claimed slots d b = option_map_or (λ i. slice_set slots i (taken d b)) (claim s
 
 -- The slots after a write: nothing is claimed where there is no such block.
 abbrev pub sparse_slots : List ℕ → List Slot → ℕ → ℕ → List Slot
-sparse_slots sizes slots d b = cond (nat_lt b (size_of sizes d)) (claimed slots d b) slots
+sparse_slots sizes slots d b = cond (plan_has sizes d b) (claimed slots d b) slots
 
 -- The lent words after a write: those of the claimed slot are replaced, where there is one.
 abbrev pub sparse_words : List ℕ → List Slot → List ℕ → ℕ → ℕ → List ℕ → List ℕ
 sparse_words sizes slots words d b ws =
-    cond (nat_lt b (size_of sizes d)) (option_map_or (λ i. paste words (128 * i) ws 128) (claim slots d b) words) words
+    cond (plan_has sizes d b) (option_map_or (λ i. paste words (128 * i) ws 128) (claim slots d b) words) words

@@ -1,5 +1,5 @@
 -- Plans: the sizes of drives 1 to 8, in a list of eight, and where their blocks lie.
-use Rattle.std.specs.Prelude.{◌≡◌, ℕ, ◌+◌, ◌-◌, ◌<◌, ◌≤◌, Bool, cond, ◌&&◌, List, take, replicate, Some, None, Ok, Err, sum, Option, Result, ◌==◌, nat_le, slice_index, slice_set}
+use Rattle.std.specs.Prelude.{◌≡◌, ℕ, ◌+◌, ◌-◌, ◌<◌, ◌≤◌, Bool, cond, ◌&&◌, List, take, replicate, Some, None, Ok, Err, sum, Option, Result, ◌==◌, nat_le, nat_lt, slice_index, slice_set}
 use Rattle.std.specs.List.{list_all}
 use Rattle.shelf.specs.declared.refusal.PlanRefusal.{PlanRefusal}
 use Rattle.shelf.specs.declared.refusal.PlanRefusal.TheVariants.{BadLength, DeclaredBefore, NoSuchDrive}
@@ -11,6 +11,10 @@ no_drives = replicate 8 0
 -- The size of a drive: 0 where there is none.
 abbrev pub size_of : List ℕ → ℕ → ℕ
 size_of sizes d = cond (nat_le 1 d && nat_le d 8) (slice_index sizes (d - 1)) 0
+
+-- There is such a block.
+abbrev pub plan_has : List ℕ → ℕ → ℕ → Bool
+plan_has sizes d b = nat_lt b (size_of sizes d)
 
 -- A drive is 1 to 8, its blocks are 1 to 65,536, and it is declared once: judged in that order.
 abbrev pub declare_answer : List ℕ → ℕ → ℕ → Result Unit PlanRefusal

@@ -1,5 +1,5 @@
-ghost use Rattle.std.specs.Prelude.{◌≡◌, ℕ, ◌≤◌, length, nat_lt, slice_index};
-ghost use Rattle.shelf.specs.Plan.{after_declare, declare_answer, no_drives, size_of, within};
+ghost use Rattle.std.specs.Prelude.{◌≡◌, ℕ, ◌≤◌, length, slice_index};
+ghost use Rattle.shelf.specs.Plan.{after_declare, declare_answer, no_drives, plan_has, size_of, within};
 
 use crate::address::BlockAddress;
 use crate::refusal::PlanRefusal;
@@ -72,7 +72,7 @@ impl ClosedPlan {
 
     // Whether there is such a block.
     pub fn has(&self, at: BlockAddress) -> bool
-        ensures { result ≡ nat_lt at.block (size_of self.now.sizes at.drive) }
+        ensures { result ≡ plan_has self.now.sizes at.drive at.block }
     {
         at.block < self.size(at.drive)
     }

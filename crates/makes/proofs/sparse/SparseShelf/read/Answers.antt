@@ -2,7 +2,7 @@ use Rattle.std.proofs.Common.{◌<◌, arith, sym, ◌∙◌}
 use Rattle.makes.proofs.Slots.{found_is}
 use Rattle.makes.proofs.sparse.SparseShelf.read.Goals as goal
 use Rattle.shelf.specs.Plan.{size_of}
-use borrow.Author.Tests.{ltb-true}
+use Rattle.std.proofs.lemmas.Bool.{ltb-true}
 
 pub get-requires : goal.get-requires
 get-requires c =

@@ -6,7 +6,7 @@ use Rattle.makes.specs.Sparse.{sparse}
 use Rattle.shelf.specs.Plan.{size_of}
 use Rattle.shelf.specs.Refusal.{short}
 use Rattle.shelf.specs.declared.plan.ClosedPlan.{ClosedPlan}
-use borrow.Author.Tests.{ltb-true}
+use Rattle.std.proofs.lemmas.Bool.{ltb-true}
 use lib.Seq.{paste}
 
 pub returns-in_err-slot : goal.returns-in_err-slot
