@@ -39,9 +39,13 @@ pub(crate) fn first_idle(slots: &[Slot]) -> Option<usize>
     slots.iter().position(|slot| slot.held.is_none())
 }
 
-// How many slots are not used.
+// How many slots are not used: a sum of ones, as in `room_of`, which takes fewer instructions than a
+// `filter` with a `count`.
 pub(crate) fn count_idle(slots: &[Slot]) -> usize
     ensures { result ≡ count_idle slots.now }
 {
-    slots.iter().filter(|slot| slot.held.is_none()).count()
+    slots
+        .iter()
+        .map(|slot| usize::from(slot.held.is_none()))
+        .sum()
 }

@@ -18,9 +18,10 @@ pub fn room_of<S: Shelf>(shelf: &S, drive: u32) -> Room
     ensures { result ≡ the_room (S.Shelf.meaning shelf.now) drive }
 {
     let blocks = shelf.size(drive);
+    // a sum of ones: of a `filter` with a `count` the compiler keeps a loop over a dense drive
     let held = (0..blocks)
-        .filter(|&block| shelf.holds(BlockAddress { drive, block }))
-        .count() as u32;
+        .map(|block| u32::from(shelf.holds(BlockAddress { drive, block })))
+        .sum::<u32>();
     let left = shelf.spare().min((blocks - held) as usize) as u32;
     Room { blocks, held, left }
 }
