@@ -25,6 +25,14 @@ pub(crate) enum Make {
 }
 
 impl Make {
+    // How many slots a shelf has.
+    fn slots(self) -> usize {
+        match self {
+            Make::Dense => 0,
+            Make::Sparse(slots) => slots as usize,
+        }
+    }
+
     // How many words a shelf of a plan needs.
     fn words(self, plan: &ClosedPlan) -> usize {
         match self {
@@ -253,17 +261,17 @@ pub(crate) fn run<'a>(rt: &HostRuntime, make: Make, args: &'a [String]) -> Resul
     };
     println!(rt; "lent: {lent} words")?;
     show_check(rt, make.check(&plan, lent))?;
+    // the slots first, which take less where the check passes: where they cannot be had, no words are
+    // filled in vain
+    let mut places: Vec<Slot> = vec![in rt.alloc(); Slot::idle(); make.slots()]?;
     let mut memory: Vec<u32> = vec![in rt.alloc(); 0; lent]?;
     let requests = &options.requests;
     match make {
         Make::Dense => play(rt, &mut Dense::new(&plan, &mut memory), requests),
-        Make::Sparse(slots) => {
-            let mut places: Vec<Slot> = vec![in rt.alloc(); Slot::idle(); slots as usize]?;
-            play(
-                rt,
-                &mut Sparse::new(&plan, &mut places, &mut memory),
-                requests,
-            )
-        }
+        Make::Sparse(_) => play(
+            rt,
+            &mut Sparse::new(&plan, &mut places, &mut memory),
+            requests,
+        ),
     }
 }
