@@ -1,7 +1,7 @@
 // The commands over cards in files. The handle and a file's name are two parameters, as the handle and
 // a shelf are in `disc`.
 use crate::failure::Failure;
-use crate::show::Shown;
+use crate::show::show_record;
 use card::codec::{LONGEST, copy_card, read_card, write_checked};
 use card::refusal::CopyRefusal;
 use record::machine::Record;
@@ -22,7 +22,8 @@ fn record_of<'a>(file: &'a str, bytes: &[u8]) -> Result<Record, Failure<'a>> {
     read_card(bytes).map_err(|refusal| Failure::NoCard { file, refusal })
 }
 
-// Writes the card of a fresh machine to a file, reads the file back and compares.
+// Writes the card of a fresh machine to a file, reads the file back and compares by `same`, whose
+// contract says what it decides.
 pub(crate) fn new<'a>(rt: &HostRuntime, file: &'a str) -> Result<(), Failure<'a>> {
     let mut out = [0; LONGEST];
     let (n, machine) = write_checked(&Record::fresh(), &mut out)?;
@@ -30,7 +31,7 @@ pub(crate) fn new<'a>(rt: &HostRuntime, file: &'a str) -> Result<(), Failure<'a>
     println!(rt; "wrote {file}: the card of a fresh machine, {n} bytes")?;
     let bytes = read_file(rt, file)?;
     let back = record_of(file, &bytes)?;
-    if back != machine {
+    if !back.same(&machine) {
         return Err(Failure::Changed(file));
     }
     println!(rt; "read it back: the same record")?;
@@ -43,8 +44,7 @@ pub(crate) fn show<'a>(rt: &HostRuntime, file: &'a str) -> Result<(), Failure<'a
     let machine = record_of(file, &bytes)?;
     let n = bytes.len();
     println!(rt; "{file}: a card of edition 1, {n} bytes")?;
-    rt.print(Shown(&machine))?;
-    Ok(())
+    show_record(rt, &machine)
 }
 
 // Reads the card in a file, writes it to another and says whether the bytes are the same.

@@ -1,4 +1,5 @@
 // A machine record as people like to read it.
+use crate::failure::Failure;
 use record::machine::{Record, WORDS};
 use std::fmt;
 
@@ -56,32 +57,26 @@ impl fmt::Display for Quoted<'_> {
     }
 }
 
-// A machine record: a line for its flags, for each word and for each queue.
-#[derive(Clone, Copy)]
-pub(crate) struct Shown<'a>(pub(crate) &'a Record);
-
-impl fmt::Display for Shown<'_> {
-    fn fmt<W: fmt::Write>(&self, f: &mut fmt::Formatter<W>) -> fmt::Result {
-        let Shown(machine) = self;
-        let flags = machine.flags();
-        let names = Flags(flags);
-        writeln!(f, "flags   {flags:08x} {names}")?;
-        for (name, word) in NAMES.iter().zip(machine.words()) {
-            writeln!(f, "{name:<7} {word:08x} {word:>10}")?;
-        }
-        let keys = machine.keys.as_slice();
-        let tray = machine.tray.as_slice();
-        writeln!(
-            f,
-            "keys    {} waiting, oldest first: {}",
-            keys.len(),
-            Quoted(keys)
-        )?;
-        writeln!(
-            f,
-            "tray    {} characters, oldest first: {}",
-            tray.len(),
-            Quoted(tray)
-        )
+// Prints a machine record: a line for its flags, for each word and for each queue. Each line is
+// printed by itself, so that a pipe that takes no more has whole lines.
+pub(crate) fn show_record(rt: &HostRuntime, machine: &Record) -> Result<(), Failure<'static>> {
+    let flags = machine.flags();
+    let names = Flags(flags);
+    println!(rt; "flags   {flags:08x} {names}")?;
+    for (name, word) in NAMES.iter().zip(machine.words()) {
+        println!(rt; "{name:<7} {word:08x} {word:>10}")?;
     }
+    let keys = machine.keys.as_slice();
+    let tray = machine.tray.as_slice();
+    println!(rt;
+        "keys    {} waiting, oldest first: {}",
+        keys.len(),
+        Quoted(keys)
+    )?;
+    println!(rt;
+        "tray    {} characters, oldest first: {}",
+        tray.len(),
+        Quoted(tray)
+    )?;
+    Ok(())
 }
