@@ -25,7 +25,10 @@ impl Slot {
     }
 }
 
-// The first slot that is used for the block.
+// The first slot that is used for the block. The two searches are compiled by themselves: within
+// their callers a loop would be laid anew each time, and where the jumps that leave a slot come to
+// stand close together, some processors take several times as long.
+#[inline(never)]
 pub(crate) fn find(slots: &[Slot], at: BlockAddress) -> Option<usize>
     ensures { result ≡ the_find slots.now at.drive at.block }
 {
@@ -33,6 +36,7 @@ pub(crate) fn find(slots: &[Slot], at: BlockAddress) -> Option<usize>
 }
 
 // The first slot that is not used.
+#[inline(never)]
 pub(crate) fn first_idle(slots: &[Slot]) -> Option<usize>
     ensures { result ≡ first_idle slots.now }
 {
